@@ -1,0 +1,6 @@
+pub mod Allowance
+pub mod Facts
+pub mod Meaning
+pub mod Metered
+pub mod Of
+pub mod Runs
