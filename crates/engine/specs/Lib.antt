@@ -1,4 +1,5 @@
 pub mod Allowance
+pub mod Chosen
 pub mod Facts
 pub mod Meaning
 pub mod Metered

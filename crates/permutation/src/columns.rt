@@ -8,6 +8,7 @@ use crate::substitution::State;
 use crate::substitution::Substitution;
 use crate::tables::SBOX;
 
+#[derive(Clone, Copy)]
 pub struct Columns;
 
 pub impl Substitution for Columns as ColumnSubstitution {

@@ -2,6 +2,7 @@
 use crate::substitution::State;
 use crate::substitution::Substitution;
 
+#[derive(Clone, Copy)]
 pub struct Words;
 
 pub impl Substitution for Words as WordSubstitution {
