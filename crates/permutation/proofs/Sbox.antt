@@ -10,12 +10,12 @@ use native.Mathlib.Omega.{arith}
 use borrow.Author.Count.{below-more}
 use lib.Dec.{T, eqb, eqb→eq}
 use lib.ListN.{getD}
-use Rattle.permutation.specs.Equations.{Term, value, y0, y1, y2, y3, y4, columnBits, Gives, SboxAgrees}
+use Rattle.permutation.specs.Equations.{Term, value, y0, y1, y2, y3, y4, columnBits, Gives, SboxAgrees, evaluated, fiveWords}
 use Rattle.permutation.specs.Bits.{bit}
 use Rattle.permutation.specs.Permutation.{sbox, column, replacement, replaced, substitute}
 use Rattle.permutation.proofs.Bits.{bit-lt, from-bits}
 use Rattle.permutation.proofs.Bitwise.{bits, value-lt, bit-value}
-use Rattle.permutation.proofs.FiveWords.{five, five-same, words}
+use Rattle.permutation.proofs.FiveWords.{five, five-same}
 
 -- ---- a test at each entry of a table, which antt computes
 
@@ -78,7 +78,7 @@ module _ (s : List ℕ) (j : ℕ) where
   column-lt : column s j < 32
   column-lt = code-lt (at 0) (at 1) (at 2) (at 3) (at 4) (at-lt 0) (at-lt 1) (at-lt 2) (at-lt 3) (at-lt 4)
 
-  column-bits : columnBits (column s j) ≡ bits (words s) j
+  column-bits : columnBits (column s j) ≡ bits (fiveWords s) j
   column-bits = code-bits (at 0) (at 1) (at 2) (at 3) (at 4) (at-lt 0) (at-lt 1) (at-lt 2) (at-lt 3) (at-lt 4)
 
 -- each word of the state has 64 bits
@@ -86,7 +86,7 @@ abbrev pub Fit : List ℕ → Type 0
 Fit s =
     (getD s 0 0 < 2 ^ 64) × (getD s 1 0 < 2 ^ 64) × (getD s 2 0 < 2 ^ 64) × (getD s 3 0 < 2 ^ 64) × (getD s 4 0 < 2 ^ 64)
 
-fits : (s : List ℕ) → Fit s → (i : ℕ) → getD (words s) i 0 < 2 ^ 64
+fits : (s : List ℕ) → Fit s → (i : ℕ) → getD (fiveWords s) i 0 < 2 ^ 64
 fits s h zero = h .0
 fits s h (suc zero) = h .1
 fits s h (suc (suc zero)) = h .2
@@ -94,19 +94,15 @@ fits s h (suc (suc (suc zero))) = h .3
 fits s h (suc (suc (suc (suc zero)))) = h .4
 fits s h (suc (suc (suc (suc (suc i))))) = omega arith
 
-pub term-replaces : (i : ℕ) (t : Term) → Gives i t → (s : List ℕ) → Fit s → value (2 ^ 64 - 1) t (words s) ≡ replaced s i
+pub term-replaces : (i : ℕ) (t : Term) → Gives i t → (s : List ℕ) → Fit s → value (2 ^ 64 - 1) t (fiveWords s) ≡ replaced s i
 unfolding replaced
 term-replaces i t g s h =
-    from-bits (value (2 ^ 64 - 1) t (words s)) 64 (replacement s i) (value-lt 64 (words s) (fits s h) t)
-    (λ j l. bit-value 64 (words s) (fits s h) t j l ∙ ap (value 1 t) (sym (column-bits s j)) ∙ g (column s j) (column-lt s j))
+    from-bits (value (2 ^ 64 - 1) t (fiveWords s)) 64 (replacement s i) (value-lt 64 (fiveWords s) (fits s h) t)
+    (λ j l. bit-value 64 (fiveWords s) (fits s h) t j l ∙ ap (value 1 t) (sym (column-bits s j)) ∙ g (column s j) (column-lt s j))
 
--- the equations on whole words
-abbrev pub equations : List ℕ → List ℕ
-equations s =
-    let at : Term → ℕ = λ t. value (2 ^ 64 - 1) t (words s) in
-    five (at y0) (at y1) (at y2) (at y3) (at y4)
-
-pub equations-substitute : (s : List ℕ) → Fit s → equations s ≡ substitute s
-equations-substitute s h =
+-- the equations on whole words replace every column
+pub evaluated-substitutes : (s : List ℕ) → Fit s → evaluated s ≡ substitute s
+evaluated-substitutes s h =
     five-same (term-replaces 0 y0 (sbox-agrees .first) s h) (term-replaces 1 y1 (sbox-agrees .second) s h)
-    (term-replaces 2 y2 (sbox-agrees .third) s h) (term-replaces 3 y3 (sbox-agrees .fourth) s h) (term-replaces 4 y4 (sbox-agrees .fifth) s h)
+    (term-replaces 2 y2 (sbox-agrees .third) s h) (term-replaces 3 y3 (sbox-agrees .fourth) s h)
+    (term-replaces 4 y4 (sbox-agrees .fifth) s h)

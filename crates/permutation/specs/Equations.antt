@@ -2,7 +2,7 @@
 -- Assumes nothing.
 use mathlib.Core.Path.{_≡_}
 use mathlib.Core.List.{List, [], _∷_}
-use Prim.Native.Nat.{ℕ, _-_, _<_}
+use Prim.Native.Nat.{ℕ, _-_, _^_, _<_}
 use lib.Bits.{bitAnd, bitXor}
 use lib.ListN.{getD}
 use Rattle.permutation.specs.Bits.{bit}
@@ -54,6 +54,16 @@ y3 = x4 ⊙ x0 ⊕ x4 ⊕ x3 ⊙ x0 ⊕ x3 ⊕ x2 ⊕ x1 ⊕ x0
 
 abbrev pub y4 : Term
 y4 = x4 ⊙ x1 ⊕ x4 ⊕ x3 ⊕ x1 ⊙ x0 ⊕ x1
+
+-- the five words of a state, written out
+abbrev pub fiveWords : List ℕ → List ℕ
+fiveWords s = getD s 0 0 ∷ getD s 1 0 ∷ getD s 2 0 ∷ getD s 3 0 ∷ getD s 4 0 ∷ []
+
+-- the equations on whole words
+abbrev pub evaluated : List ℕ → List ℕ
+evaluated s =
+    let at : Term → ℕ = λ t. value (2 ^ 64 - 1) t (fiveWords s) in
+    at y0 ∷ at y1 ∷ at y2 ∷ at y3 ∷ at y4 ∷ []
 
 -- the five bits of column k, highest first
 abbrev pub columnBits : ℕ → List ℕ

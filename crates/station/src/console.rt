@@ -12,14 +12,14 @@ use engine::EngineFault;
 use engine::Layer;
 use engine::QuotaEngine;
 use engines::SoftwareEngine;
+use permutation::ColumnSubstitution;
 use permutation::State;
+use permutation::WordSubstitution;
 use std::error::AnyError;
 use std::fmt;
 use std::io::BufRead;
 use std::io::BufReader;
 use std::str::from_utf8;
-use permutation::ColumnSubstitution;
-use permutation::WordSubstitution;
 
 // Answers one line after another, to the end of the input.
 pub fn serve(rt: &LibcRuntime) -> Result<(), AnyError> {

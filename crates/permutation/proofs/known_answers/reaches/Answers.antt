@@ -9,6 +9,6 @@ pub returns : need.returns
 returns g c =
     record {
       reached =
-          subst (λ (s : List ℕ). Decides (c .eq .result) (s ≡ c .args .expected)) (c .permute .ensures .specified-permutation)
+          subst (λ (s : List ℕ). Decides (c .eq .result) (s ≡ c .args .expected)) (c .initialized .ensures .twelve-rounds)
           (matches-decides _ _ _ (c .eq .ensures));
     }

@@ -1,16 +1,22 @@
 use borrow.Author.Needs.{needs}
-use Rattle.permutation.proofs.Run.{run-more, run-all}
+use Rattle.permutation.specs.Permutation.{round}
+use Rattle.permutation.proofs.Run.{rounds-all, rounds-more, rounds-none}
 use Rattle.permutation.proofs.rounds.permute.Needs as need
 
-pub loop-constant-again : need.loop-constant-again
-loop-constant-again g c =
-    run-more (c .args .state .now) (c .loop-constant .state) (c .one-round .last .state) (c .saturating-sub .result)
-    (c .loop-constant .constant-index) (search needs) (c .loop-constant .inv) (c .one-round .ensures .one-round)
+pub loop-i-holds : need.loop-i-holds
+loop-i-holds g c = rounds-none (c .args .state .now) (c .first-constant-first .result)
+
+pub loop-i-again : need.loop-i-again
+unfolding round
+loop-i-again g c =
+    rounds-more (c .args .state .now) (c .loop-i .state) (c .one-round .last .state) (c .first-constant-first .result)
+    (c .loop-i .i) (c .constant .result) (search needs) (search needs) (c .loop-i .inv) (c .constant .ensures .constant-is)
+    (c .one-round .ensures .three-layers)
 
 pub returns : need.returns
 returns g c =
     record {
       specified-permutation =
-          run-all (c .args .state .now) (c .loop-constant .state) (c .args .rounds) (c .saturating-sub .result)
-          (c .loop-constant .constant-index) (search needs) (search needs) (c .loop-constant .inv);
+          rounds-all (c .args .state .now) (c .loop-i .state) (c .args .rounds) (c .first-constant-first .result) (c .loop-i .i)
+          (c .first-constant-first .ensures .first-is) (search needs) (c .loop-i .inv);
     }
