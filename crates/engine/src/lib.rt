@@ -4,20 +4,14 @@
 // hardware block, or a layer over another engine. What it means and owes is said by `Engine`, in the terms of specs/Meaning.antt.
 
 pub mod allowance;
-mod either;
 pub mod fault;
 mod interface;
 mod lent;
-mod quota;
 mod runs;
 
 pub use allowance::Allowance;
-pub use either::Either;
-pub use either::EitherEngine;
 pub use fault::EngineFault;
 pub use fault::Layer;
 pub use interface::Engine;
 pub use lent::LentEngine;
-pub use quota::Quota;
-pub use quota::QuotaEngine;
 pub use runs::completed_runs;

@@ -2,8 +2,8 @@
 ghost use mathlib.Core.Path.{_≡_};
 ghost use Prim.Native.Nat.{_*_, _<_};
 ghost use lib.ListN.{length};
+ghost use Rattle.std.specs.Text.{digitChar};
 ghost use Rattle.hex.specs.Hexadecimal.{digitAt, encode, encoded};
-use crate::digit::digit;
 use crate::fault::HexFault;
 
 // Writes two digits for each byte, in lower case and the high one first, and answers how many.
@@ -37,5 +37,17 @@ fn digit_at(bytes: &[u8], k: usize) -> u8
         digit(byte / 16)
     } else {
         digit(byte % 16)
+    }
+}
+
+// The character of a value, in lower case.
+fn digit(value: u8) -> u8
+    requires { ⌜ value < 16 ⌝ }
+    ensures digit_is { λ r. ⌜ r ≡ digitChar value ⌝ }
+{
+    if value < 10 {
+        b'0' + value
+    } else {
+        b'a' + (value - 10)
     }
 }

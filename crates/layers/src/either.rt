@@ -1,8 +1,8 @@
 // One of two engines, chosen at run time: an engine that means what the chosen one means.
-ghost use Rattle.engine.specs.Chosen.{chosen};
-use crate::allowance::Allowance;
-use crate::fault::EngineFault;
-use crate::interface::Engine;
+ghost use Rattle.layers.specs.Chosen.{chosen};
+use engine::Allowance;
+use engine::Engine;
+use engine::EngineFault;
 
 #[derive(Drop)]
 pub enum Either<A, B> {

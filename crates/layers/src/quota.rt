@@ -1,11 +1,11 @@
 // A quota: an engine over any engine, with a count of runs that its owner sets. Quotas pile up: a quota over a quota is an engine too.
 ghost use mathlib.Core.Path.{_≡_};
 ghost use Rattle.engine.specs.Allowance.{smaller};
 ghost use Rattle.engine.specs.Meaning.{loaded, mix, run};
-ghost use Rattle.engine.specs.Metered.{below, limited, metered, passed, runMetered};
-use crate::allowance::Allowance;
-use crate::fault::EngineFault;
-use crate::interface::Engine;
+ghost use Rattle.layers.specs.Metered.{below, limited, metered, passed, runMetered};
+use engine::Allowance;
+use engine::Engine;
+use engine::EngineFault;
 
 // It shows the words of the engine below; its allowance is the smaller of its count and the allowance below.
 #[derive(Drop)]
@@ -24,7 +24,8 @@ impl<E: Engine> Quota<E> {
     pub fn count(&self) -> u32
         ensures count_answered { λ r. ⌜ r ≡ now (self .entry) .count ⌝ }
     {
-        self.count
+        let Quota { count, .. } = self;
+        *count
     }
 
     pub fn set_count(&mut self, count: u32)

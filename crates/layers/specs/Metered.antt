@@ -4,13 +4,13 @@ use mathlib.Core.Bool.{cond}
 use Prim.Native.Nat.{ℕ, _-_}
 use Rattle.std.specs.declared.result.Result.{Result}
 use Rattle.std.specs.declared.result.Result.the-variants.{Ok, Err}
 use Rattle.engine.specs.Allowance.{covers, smaller}
 use Rattle.engine.specs.Meaning.{Meaning, Answered, ran, roundsAllowed}
 use Rattle.engine.specs.Of.{meaning}
 use Rattle.engine.specs.declared.fault.EngineFault.{EngineFault}
 use Rattle.engine.specs.declared.fault.EngineFault.the-variants.{RoundsOutOfRange, NoRunsLeft}
 use Rattle.engine.specs.declared.interface.Engine.{Ghosts}
-use Rattle.engine.specs.declared.quota.Quota.{Quota}
+use Rattle.layers.specs.declared.quota.Quota.{Quota}
 
 -- what a quota means: the words below, and the smaller of its count and the allowance below
 abbrev pub limited : {E : Type 0} → Ghosts E → Quota E → Meaning

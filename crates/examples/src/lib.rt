@@ -1,0 +1,6 @@
+// Examples of every layer, as tests: values that the standard prints or that another implementation gave, and the ends of each range.
+
+#[cfg(test)]
+mod engine_calls;
+#[cfg(test)]
+mod quota_piles;
