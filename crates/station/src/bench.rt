@@ -1,7 +1,10 @@
 // The bench: the engine that the operator chose, with the quotas set on it.
 ghost use mathlib.Core.Path.{_≡_};
 ghost use Rattle.engine.specs.Of.{meaning};
+ghost use Rattle.station.specs.Built.{Built};
 ghost use Rattle.station.specs.Permute.{permuteOnce};
+ghost use Rattle.station.specs.declared.command.Kind.the-variants.{Word};
+ghost use Rattle.station.specs.declared.command.Quotas.the-variants.{Off};
 use crate::command::Kind;
 use crate::command::Quotas;
 use engine::Engine;
@@ -31,25 +34,33 @@ pub struct Bench {
 
 impl Bench {
     // A word engine with no quota.
-    pub fn new() -> Bench {
+    pub fn new() -> Bench
+        ensures word_engine { λ r. ⌜ (r .kind ≡ Word) × Built Word Off (r .engine) ⌝ }
+    {
         Bench {
             kind: Kind::Word,
             engine: pile(Kind::Word, Quotas::Off),
         }
     }
 
-    pub fn choose(&mut self, kind: Kind) {
+    pub fn choose(&mut self, kind: Kind)
+        ensures new_engine { λ _. ⌜ (now (self .exit) .kind ≡ kind) × Built kind Off (now (self .exit) .engine) ⌝ }
+    {
         self.kind = kind;
         self.engine = pile(kind, Quotas::Off);
     }
 
-    pub fn limit(&mut self, quotas: Quotas) {
+    pub fn limit(&mut self, quotas: Quotas)
+        ensures new_engine { λ _. ⌜ (now (self .exit) .kind ≡ now (self .entry) .kind) × Built (now (self .entry) .kind) quotas (now (self .exit) .engine) ⌝ }
+    {
         self.engine = pile(self.kind, quotas);
     }
 }
 
 // A new engine of the kind, with zero words, under the quotas.
-fn pile(kind: Kind, quotas: Quotas) -> Pile {
+fn pile(kind: Kind, quotas: Quotas) -> Pile
+    ensures kind_and_quotas { λ r. ⌜ Built kind quotas r ⌝ }
+{
     let chosen = match kind {
         Kind::Word => Either::First(WordEngine::new()),
         Kind::Column => Either::Second(ColumnEngine::new()),
