@@ -1,2 +1,3 @@
 pub mod Laws
+pub mod Spending
 pub mod WordCount

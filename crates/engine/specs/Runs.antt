@@ -1,12 +1,13 @@
 -- What the layers above say about runs, and the laws that they reason by.
 -- Assumes nothing.
-use mathlib.Core.Bool.{Bool, true, false, _&&_}
+use mathlib.Core.Bool.{Bool, true, false, cond, _&&_}
 use mathlib.Core.List.{List, [], _∷_}
 use mathlib.Core.Path.{_≡_}
-use Prim.Native.Nat.{ℕ, _+_}
+use Prim.Native.Nat.{ℕ, _+_, _≤_}
+use Rattle.std.specs.declared.result.Result.{Result}
 use Rattle.std.specs.declared.result.Result.the-variants.{Ok, Err}
 use Rattle.engine.specs.Allowance.{covers, lowered, granted}
-use Rattle.engine.specs.Meaning.{Meaning, permuted, roundsAllowed, run}
+use Rattle.engine.specs.Meaning.{Meaning, holding, permuted, roundsAllowed, run}
 use Rattle.engine.specs.declared.fault.EngineFault.{EngineFault}
 use Rattle.engine.specs.declared.fault.EngineFault.the-variants.{NoRunsLeft}
 
@@ -26,8 +27,17 @@ refusal m = NoRunsLeft
 abbrev pub completed : Meaning → ℕ
 completed m = granted (m .allowance)
 
+-- a value at the price of n runs: given if the engine has them all, else the engine's refusal
+abbrev pub paid : {X : Type 0} → ℕ → Meaning → X → Result X EngineFault
+paid n m v = cond (has n m) (Ok v) (Err (refusal m))
+
+-- words that tell nothing
 abbrev pub zeroWords : List ℕ
 zeroWords = 0 ∷ 0 ∷ 0 ∷ 0 ∷ 0 ∷ []
+
+-- the same runs left, and zero words
+abbrev pub wiped : Meaning → Meaning
+wiped m = holding zeroWords m
 
 -- the laws of runs
 pub record RunsAddUp : Type 0 where
@@ -43,6 +53,9 @@ pub record RunsAddUp : Type 0 where
   pub run-refused : (r : ℕ) (m : Meaning) → roundsAllowed r ≡ true → has 1 m ≡ false → run r m ≡ (Err (refusal m), m)
   -- an engine that lacks a run stays as it is, however many are asked for
   pub lacking-stays : (n : ℕ) (m : Meaning) → has 1 m ≡ false → after n (m .words) m ≡ m
+  -- where k runs are lacking, more are too, and asking for more leaves no less
+  pub lacking-more : (k n : ℕ) (m : Meaning) → k ≤ n → has k m ≡ false → has n m ≡ false
+  pub lacking-after : (k n : ℕ) (ws : List ℕ) (m : Meaning) → k ≤ n → has k m ≡ false → after k ws m ≡ after n ws m
   -- which refusal comes does not depend on the runs made before
   pub refusal-same : (n : ℕ) (ws : List ℕ) (m : Meaning) → refusal (after n ws m) ≡ refusal m
   -- an engine that lacks n runs has the completed ones, and not one more

@@ -6,3 +6,4 @@ pub mod Rotation
 pub mod Run
 pub mod Sbox
 pub mod Values
+pub mod WordCount

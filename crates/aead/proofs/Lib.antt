@@ -1,0 +1,9 @@
+mod Blocks
+mod Bytes
+mod Chains
+mod Inverse
+mod Opens
+mod Outcomes
+mod Parts
+mod Same
+mod Xor

@@ -1,0 +1,5 @@
+pub mod Blocks
+pub mod Bytes
+pub mod Calls
+pub mod Cipher
+pub mod Laws
