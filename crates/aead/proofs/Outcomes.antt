@@ -23,7 +23,7 @@ use Rattle.suite.specs.Facts.{stamped}
 use Rattle.suite.specs.declared.fault.SuiteFault.{SuiteFault}
 use Rattle.suite.specs.declared.fault.SuiteFault.the-variants.{Engine, InputTooLong, OutputTooShort, TagMissing, TagMismatch}
 use Rattle.aead.specs.Bytes.{same}
-use Rattle.aead.specs.Calls.{Outcome, accepted, cleared, lifted, long, opening, outOfRuns, sealing, settled}
+use Rattle.aead.specs.Calls.{Outcome, accepted, cleared, lifted, long, opening, outOfRuns, sealing, settled, verified}
 use Rattle.aead.specs.Cipher.{cost, sealed, tagOf, unsealed}
 
 -- ---- the question of length
@@ -108,3 +108,70 @@ module _ (key nonce xs ys text out : List ℕ) (m : Meaning) where
       rw (ad, short, le-ltb (length out) (length text + 16) room, gone)
       (ended-err price (length text + 16) k out m r₂ r o₁ o₂ y z size spent answer written clear (Engine (refusal m) 0) (outOfRuns m)
       (lift ∙ ap lifted no-runs) (ap (λ (j : ℕ). Engine (refusal m) j) runs))
+
+-- ---- opening
+
+module _ (key nonce xs ys s out : List ℕ) (m : Meaning) where
+  pub opens-untagged : length s < 16 → _≡_ {A = Outcome} (Err TagMissing, out, m) (opening key nonce (xs ++ ys) s out m)
+  unfolding opening
+  opens-untagged h = rw (lt-ltb (length s) 16 h)
+
+  pub opens-long : (r : Result ℕ SuiteFault) → 16 ≤ length s → long (length xs + length ys) (length s - 16) ≡ true → r ≡ Err InputTooLong
+      → _≡_ {A = Outcome} (r, out, m) (opening key nonce (xs ++ ys) s out m)
+  unfolding opening
+  opens-long r t h is =
+      let e : long (length (xs ++ ys)) (length s - 16) ≡ true = ap (λ (n : ℕ). long n (length s - 16)) (length-append xs ys) ∙ h in
+      rw (le-ltb (length s) 16 t, e) (three is refl refl)
+
+  pub opens-short : 16 ≤ length s → long (length xs + length ys) (length s - 16) ≡ false → length out < length s - 16
+      → _≡_ {A = Outcome} (Err OutputTooShort, out, m) (opening key nonce (xs ++ ys) s out m)
+  unfolding opening
+  opens-short t h lt =
+      let e : long (length (xs ++ ys)) (length s - 16) ≡ false = ap (λ (n : ℕ). long n (length s - 16)) (length-append xs ys) ∙ h in
+      rw (le-ltb (length s) 16 t, e, lt-ltb (length out) (length s - 16) lt)
+
+  -- the ciphertext, its text and the tag of that
+  module _ (c : List ℕ) where
+    abbrev open-price : ℕ
+    open-price = cost (length xs + length ys) (length c)
+
+    abbrev text : List ℕ
+    text = unsealed key nonce (xs ++ ys) c
+
+    abbrev tag : List ℕ
+    tag = tagOf key nonce (xs ++ ys) text
+
+    decided : (b t : Bool) (k : ℕ) (came : List ℕ) (r₁ : Result (List ℕ) EngineFault) (r₂ : Result (Unit {0}) SuiteFault) (r : Result ℕ SuiteFault) (o₁ o₂ : List ℕ) (y z : Meaning)
+        → has open-price m ≡ b → same tag came ≡ t → length o₁ ≡ length c
+        → r₁ ≡ paid open-price m tag → made r₁ (λ _. o₁ ≡ text) → k ≡ completed m → y ≡ after open-price (y .words) m
+        → r₂ ≡ verified came r₁ → r ≡ settled k (length o₁) r₂ → o₂ ≡ cond (isOk r₂) o₁ (replicate (length o₁) 0) → z ≡ wiped y
+        → _≡_ {A = Outcome} (r, o₂ ++ postOf 0 (length c - 0) out, z)
+        (cond b (cond t (accepted open-price (length c) text out m) (cleared open-price (length c) TagMismatch out m))
+        (cleared open-price (length c) (outOfRuns m) out m))
+    decided true true k came r₁ r₂ r o₁ o₂ y z here right size is made′ runs spent ver answer written clear =
+        let ok : r₁ ≡ Ok tag = is ∙ ap (λ (b : Bool). cond b (Ok tag) (Err (refusal m))) here in
+        ended-ok open-price (length c) k out m r₂ r o₁ o₂ y z size spent answer written clear text
+        (ver ∙ ap (verified came) ok ∙ ap (λ (b : Bool). cond b (Ok tt) (Err TagMismatch)) right) (rw ok at made′)
+    decided true false k came r₁ r₂ r o₁ o₂ y z here wrong size is made′ runs spent ver answer written clear =
+        let ok : r₁ ≡ Ok tag = is ∙ ap (λ (b : Bool). cond b (Ok tag) (Err (refusal m))) here in
+        ended-err open-price (length c) k out m r₂ r o₁ o₂ y z size spent answer written clear TagMismatch TagMismatch
+        (ver ∙ ap (verified came) ok ∙ ap (λ (b : Bool). cond b (Ok tt) (Err TagMismatch)) wrong) refl
+    decided false t k came r₁ r₂ r o₁ o₂ y z gone any size is made′ runs spent ver answer written clear =
+        let no-runs : r₁ ≡ Err (refusal m) = is ∙ ap (λ (b : Bool). cond b (Ok tag) (Err (refusal m))) gone in
+        ended-err open-price (length c) k out m r₂ r o₁ o₂ y z size spent answer written clear (Engine (refusal m) 0) (outOfRuns m)
+        (ver ∙ ap (verified came) no-runs) (ap (λ (j : ℕ). Engine (refusal m) j) runs)
+
+    pub opens-whole : (k : ℕ) (came : List ℕ) (r₁ : Result (List ℕ) EngineFault) (r₂ : Result (Unit {0}) SuiteFault) (r : Result ℕ SuiteFault) (o₁ o₂ : List ℕ) (y z : Meaning)
+        → 16 ≤ length s → long (length xs + length ys) (length s - 16) ≡ false → length s - 16 ≤ length out
+        → c ≡ take (length s - 16 - 0) s → came ≡ drop (length s - 16) s → length o₁ ≡ length c
+        → r₁ ≡ paid open-price m tag → made r₁ (λ _. o₁ ≡ text) → k ≡ completed m → y ≡ after open-price (y .words) m
+        → r₂ ≡ verified came r₁ → r ≡ settled k (length o₁) r₂ → o₂ ≡ cond (isOk r₂) o₁ (replicate (length o₁) 0) → z ≡ wiped y
+        → _≡_ {A = Outcome} (r, o₂ ++ postOf 0 (length s - 16 - 0) out, z) (opening key nonce (xs ++ ys) s out m)
+    unfolding opening
+    opens-whole k came r₁ r₂ r o₁ o₂ y z sixteen short room cut last size is made′ runs spent ver answer written clear =
+        let n = length s - 16 in
+        let ad : length (xs ++ ys) ≡ length xs + length ys = length-append xs ys in
+        let front : take n s ≡ c = sym (cut ∙ ap (λ (j : ℕ). take j s) (sub-zero n)) in
+        let count : length c ≡ n = ap length (sym front) ∙ length-take-le n s (omega arith) in
+        rw (le-ltb (length s) 16 sixteen, ad, short, le-ltb (length out) n room, front, ← last, ← count)
+        (decided (has open-price m) (same tag came) k came r₁ r₂ r o₁ o₂ y z refl refl size is made′ runs spent ver answer written clear)

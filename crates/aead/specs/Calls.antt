@@ -44,6 +44,11 @@ abbrev pub lifted : {X : Type 0} → Result X EngineFault → Result X SuiteFaul
 lifted (Ok x) = Ok x
 lifted (Err e) = Err (Engine e 0)
 
+-- a computed tag against the one that came
+abbrev pub verified : List ℕ → Result (List ℕ) EngineFault → Result (Unit {0}) SuiteFault
+verified tag (Ok computed) = cond (same computed tag) (Ok tt) (Err TagMismatch)
+verified tag (Err e) = Err (Engine e 0)
+
 -- the answer of a call that wrote n bytes or was refused
 abbrev pub settled : ℕ → ℕ → Result (Unit {0}) SuiteFault → Result ℕ SuiteFault
 settled runs n (Ok u) = Ok n

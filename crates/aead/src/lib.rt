@@ -5,10 +5,12 @@
 
 mod comparing;
 mod ending;
+mod opening;
 mod padding;
 mod sealing;
 mod steps;
 mod words;
 
+pub use opening::open;
 pub use sealing::seal;
 pub use words::Block;

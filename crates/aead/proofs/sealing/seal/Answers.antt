@@ -14,7 +14,7 @@ pub returns-in-Break-within-limits : need.returns-in-Break-within-limits
 returns-in-Break-within-limits g c =
     let p = err-from-errBy (c .from-residual .result) (c .from-residual .ensures .1) in
     let q = was-long (long (length (c .args .front .now) + length (c .args .back .now)) (length (c .args .text .now))) _ _
-            (c .within-limits .ensures .lengths-asked) (c .in-Break-within-limits .was tt)
+    (c .within-limits .ensures .lengths-asked) (c .in-Break-within-limits .was tt)
     in
     record {
       sealed-or-refused =

@@ -17,8 +17,8 @@ returns-in-Break-prepare g c =
     let m = meaning (g .E·Engine) (c .args .engine .now) in
     let ad = length (c .args .front .now) + length (c .args .back .now) in
     let t = refused m (meaning (g .E·Engine) (c .prepare .last .engine)) (1 + dataBlocks ad) (cost ad (length (c .args .text .now))) tt tt _ _ _ _
-            (err-from-errBy (c .from-residual .result) (c .from-residual .ensures .1)) (c .in-Break-prepare .was tt)
-            (c .prepare .ensures .paid-or-refused) (c .prepare .ensures .runs-spent) (omega arith)
+    (err-from-errBy (c .from-residual .result) (c .from-residual .ensures .1)) (c .in-Break-prepare .was tt)
+    (c .prepare .ensures .paid-or-refused) (c .prepare .ensures .runs-spent) (omega arith)
     in
     record { paid-or-refused = t .0; sealed-written = t .1; runs-spent = t .2 }
 
@@ -31,11 +31,11 @@ returns-in-Break-seal-text g c =
     let ad = length (c .args .front .now) + length (c .args .back .now) in
     let n = length (c .args .text .now) / 16 in
     let t = refused m z (1 + dataBlocks ad + n) (cost ad (length (c .args .text .now))) tt tt _ _ _ _
-            (err-from-errBy (c .from-residual-in-Break-seal-text .result) (c .from-residual-in-Break-seal-text .ensures .1))
-            (c .in-Break-seal-text .was tt)
-            (next m y (1 + dataBlocks ad) n tt tt tt _ _ (c .prepare .ensures .runs-spent) (c .prepare .ensures .paid-or-refused)
-            (c .in-Continue-prepare .was tt) (c .seal-text .ensures .paid-or-refused))
-            (next-spent m y z (1 + dataBlocks ad) n (c .prepare .ensures .runs-spent) (c .seal-text .ensures .runs-spent)) (omega arith)
+    (err-from-errBy (c .from-residual-in-Break-seal-text .result) (c .from-residual-in-Break-seal-text .ensures .1))
+    (c .in-Break-seal-text .was tt)
+    (next m y (1 + dataBlocks ad) n tt tt tt _ _ (c .prepare .ensures .runs-spent) (c .prepare .ensures .paid-or-refused)
+    (c .in-Continue-prepare .was tt) (c .seal-text .ensures .paid-or-refused))
+    (next-spent m y z (1 + dataBlocks ad) n (c .prepare .ensures .runs-spent) (c .seal-text .ensures .runs-spent)) (omega arith)
     in
     record { paid-or-refused = t .0; sealed-written = t .1; runs-spent = t .2 }
 
@@ -50,12 +50,12 @@ returns-in-Break-tag g c =
     let n = length (c .args .text .now) / 16 in
     let spent = next-spent m y z (1 + dataBlocks ad) n (c .prepare .ensures .runs-spent) (c .seal-text .ensures .runs-spent) in
     let done = next m y (1 + dataBlocks ad) n tt tt tt _ _ (c .prepare .ensures .runs-spent) (c .prepare .ensures .paid-or-refused)
-               (c .in-Continue-prepare .was tt) (c .seal-text .ensures .paid-or-refused)
+    (c .in-Continue-prepare .was tt) (c .seal-text .ensures .paid-or-refused)
     in
     let t = refused m e (1 + dataBlocks ad + n + 1) (1 + dataBlocks ad + n + 1) _ tt _ _ _ _
-            (err-from-errBy (c .from-residual-in-Break-tag .result) (c .from-residual-in-Break-tag .ensures .1)) (c .in-Break-tag .was tt)
-            (next m z (1 + dataBlocks ad + n) 1 tt tt _ _ _ spent done (c .in-Continue-seal-text .was tt) (c .finalize .ensures .paid-or-refused))
-            (next-spent m z e (1 + dataBlocks ad + n) 1 spent (c .finalize .ensures .runs-spent)) (omega arith)
+    (err-from-errBy (c .from-residual-in-Break-tag .result) (c .from-residual-in-Break-tag .ensures .1)) (c .in-Break-tag .was tt)
+    (next m z (1 + dataBlocks ad + n) 1 tt tt _ _ _ spent done (c .in-Continue-seal-text .was tt) (c .finalize .ensures .paid-or-refused))
+    (next-spent m z e (1 + dataBlocks ad + n) 1 spent (c .finalize .ensures .runs-spent)) (omega arith)
     in
     record { paid-or-refused = t .0; sealed-written = t .1; runs-spent = t .2 }
 
@@ -71,7 +71,7 @@ returns g c =
     let n = length text / 16 in
     let spent = next-spent m y z (1 + dataBlocks ad) n (c .prepare .ensures .runs-spent) (c .seal-text .ensures .runs-spent) in
     let done = next m y (1 + dataBlocks ad) n tt tt tt _ _ (c .prepare .ensures .runs-spent) (c .prepare .ensures .paid-or-refused)
-               (c .in-Continue-prepare .was tt) (c .seal-text .ensures .paid-or-refused)
+    (c .in-Continue-prepare .was tt) (c .seal-text .ensures .paid-or-refused)
     in
     let tag = c .copy-from-slice .ensures .after ∙ paid-value 1 z _ _ (c .in-Continue-tag .ensures tt .paid-or-refused) in
     let out = c .in-Continue-seal-text .ensures tt .ciphertext-written in
