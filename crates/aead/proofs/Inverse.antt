@@ -155,6 +155,10 @@ bytes-opened (suc n) ws c h =
     all-append (λ b. b < 256) (openedBlocks n ws c) (uncovered (afterOpening n ws c) (part c n)) (bytes-opened n ws c h)
     (bytes-xored (part c n) (rate (afterOpening n ws c)) (all-take (λ b. b < 256) 16 (drop (16 * n) c) (all-drop (λ b. b < 256) (16 * n) c h)) (bytes-rate (afterOpening n ws c)))
 
+pub bytes-plaintext : (ws c : List ℕ) → Bytes c → Bytes (plaintext ws c)
+unfolding plaintext
+bytes-plaintext ws c h = bytes-opened (length c / 16 + 1) ws c h
+
 pub ciphertext-plaintext : (ws c : List ℕ) → length ws ≡ 5 → Bytes c → ciphertext ws (plaintext ws c) ≡ c
 unfolding plaintext uncovered
 ciphertext-plaintext ws c five h =

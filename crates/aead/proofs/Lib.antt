@@ -1,5 +1,6 @@
 mod Blocks
 mod Bytes
+mod CallLaws
 mod Chains
 mod Inverse
 mod Opens

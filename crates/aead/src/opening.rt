@@ -10,6 +10,7 @@ ghost use Rattle.aead.specs.Blocks.{afterOpening, afterText, openedBlocks, pla
 ghost use Rattle.aead.specs.Bytes.{xored};
 ghost use Rattle.aead.specs.Calls.{opening as openingOf, verified};
 ghost use Rattle.aead.specs.Cipher.{cost, tagOf, unsealed};
+ghost use Rattle.aead.specs.Laws.{AcceptsExactlySealed, SealingUndoesOpening};
 use crate::comparing::equal;
 use crate::ending::settle;
 use crate::ending::within_limits;
@@ -116,6 +117,22 @@ fn verify(computed: Result<Block, EngineFault>, tag: &Block) -> Result<(), Suite
 // Opens a sealed text under a key and a nonce, with associated data in two parts that count as joined. The output begins with the text,
 // whose length is the answer. Where the tag is another, or the engine refuses a run, that part of the output is zero.
 pub fn open<E: Engine>(
+    engine: &mut E,
+    key: &Block,
+    nonce: &Block,
+    front: &[u8],
+    back: &[u8],
+    sealed: &[u8],
+    out: &mut [u8],
+) -> Result<usize, SuiteFault>
+    ensures opened_or_refused { λ r. ⌜ (r, now (out .exit), meaning E·Engine (now (engine .exit))) ≡ openingOf (now (key .entry)) (now (nonce .entry)) (now (front .entry) ++ now (back .entry)) (now (sealed .entry)) (now (out .entry)) (meaning E·Engine (now (engine .entry))) ⌝ }
+    ensures sealing_undoes_opening { λ _. ⌜ SealingUndoesOpening ⌝ }
+    ensures accepts_exactly_sealed_texts { λ _. ⌜ AcceptsExactlySealed ⌝ }
+{
+    open_or_refuse(engine, key, nonce, front, back, sealed, out)
+}
+
+fn open_or_refuse<E: Engine>(
     engine: &mut E,
     key: &Block,
     nonce: &Block,

@@ -9,6 +9,7 @@ ghost use Rattle.engine.specs.Runs.{after, paid};
 ghost use Rattle.aead.specs.Blocks.{afterBlocks, afterText, ciphertext, sealedBlocks};
 ghost use Rattle.aead.specs.Calls.{lifted, sealing as sealingOf};
 ghost use Rattle.aead.specs.Cipher.{cost, sealed};
+ghost use Rattle.aead.specs.Laws.{OpeningUndoesSealing};
 use crate::ending::settle;
 use crate::ending::within_limits;
 use crate::padding::block;
@@ -88,6 +89,21 @@ fn lift(result: Result<(), EngineFault>) -> Result<(), SuiteFault>
 // Seals a text under a key and a nonce, with associated data in two parts that count as joined. The output begins with the
 // ciphertext and the tag, whose length is the answer.
 pub fn seal<E: Engine>(
+    engine: &mut E,
+    key: &Block,
+    nonce: &Block,
+    front: &[u8],
+    back: &[u8],
+    text: &[u8],
+    out: &mut [u8],
+) -> Result<usize, SuiteFault>
+    ensures sealed_or_refused { λ r. ⌜ (r, now (out .exit), meaning E·Engine (now (engine .exit))) ≡ sealingOf (now (key .entry)) (now (nonce .entry)) (now (front .entry) ++ now (back .entry)) (now (text .entry)) (now (out .entry)) (meaning E·Engine (now (engine .entry))) ⌝ }
+    ensures opening_undoes_sealing { λ _. ⌜ OpeningUndoesSealing ⌝ }
+{
+    seal_or_refuse(engine, key, nonce, front, back, text, out)
+}
+
+fn seal_or_refuse<E: Engine>(
     engine: &mut E,
     key: &Block,
     nonce: &Block,
