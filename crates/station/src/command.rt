@@ -2,7 +2,9 @@
 use crate::line::Line;
 use crate::line::Reason;
 use crate::line::count;
+use aead::Block;
 use permutation::State;
+use std::alloc::Global;
 use std::fmt;
 
 // Which engine computes.
@@ -31,22 +33,37 @@ pub enum Quotas {
     Two(u32, u32),
 }
 
-#[derive(Clone, Copy)]
+// A text to seal or a sealed text to open, with an output of `room` bytes.
+#[derive(Drop)]
+pub struct AeadJob {
+    pub key: Block,
+    pub nonce: Block,
+    pub front: Vec<u8>,
+    pub back: Vec<u8>,
+    pub text: Vec<u8>,
+    pub room: usize,
+}
+
+#[derive(Drop)]
 pub enum Command {
     Engine(Kind),
     Quota(Quotas),
     Tell,
     Permute(usize, State),
+    SealText(AeadJob),
+    OpenText(AeadJob),
 }
 
 impl Command {
     // The command that a first word and the words after it spell.
-    pub fn parse(name: &str, words: &mut Line<'_>) -> Result<Command, Reason> {
+    pub fn parse(heap: Global, name: &str, words: &mut Line<'_>) -> Result<Command, Reason> {
         let command = match name {
             "engine" => Command::Engine(parse_kind(words)?),
             "quota" => Command::Quota(parse_quotas(words)?),
             "tell" => Command::Tell,
             "permute" => parse_permute(words)?,
+            "seal-text" => Command::SealText(parse_aead(heap, words)?),
+            "open-text" => Command::OpenText(parse_aead(heap, words)?),
             _ => return Err(Reason::UnknownWord),
         };
         words.end()?;
@@ -84,4 +101,21 @@ fn parse_permute(words: &mut Line<'_>) -> Result<Command, Reason> {
         words.state_word()?,
     ];
     Ok(Command::Permute(rounds, state))
+}
+
+fn parse_aead(heap: Global, words: &mut Line<'_>) -> Result<AeadJob, Reason> {
+    let key = words.block()?;
+    let nonce = words.block()?;
+    let front = words.bytes(heap)?;
+    let back = words.bytes(heap)?;
+    let text = words.bytes(heap)?;
+    let room = words.room()?;
+    Ok(AeadJob {
+        key,
+        nonce,
+        front,
+        back,
+        text,
+        room,
+    })
 }

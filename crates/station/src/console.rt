@@ -1,14 +1,21 @@
 // The loop over the input, and the answers.
 use crate::bench::Bench;
 use crate::bench::permute;
+use crate::command::AeadJob;
 use crate::command::Command;
 use crate::command::KindDisplay;
 use crate::line::Line;
 use crate::line::ReasonDisplay;
-use engine::Allowance;
+use crate::shown::Five;
+use crate::shown::FiveDisplay;
+use crate::shown::Refusal;
+use crate::shown::RefusalDisplay;
+use crate::shown::Told;
+use crate::shown::ToldDisplay;
+use crate::shown::digits;
+use aead::open;
+use aead::seal;
 use engine::Engine;
-use engine::EngineFault;
-use engine::Layer;
 use engines::SoftwareEngine;
 use layers::EitherEngine;
 use layers::QuotaEngine;
@@ -16,10 +23,10 @@ use permutation::ColumnSubstitution;
 use permutation::State;
 use permutation::WordSubstitution;
 use std::error::AnyError;
-use std::fmt;
 use std::io::BufRead;
 use std::io::BufReader;
 use std::str::from_utf8;
+use suite::SuiteFault;
 
 // Answers one line after another, to the end of the input.
 pub fn serve(rt: &LibcRuntime) -> Result<(), AnyError> {
@@ -47,7 +54,7 @@ fn answer(rt: &LibcRuntime, bench: &mut Bench, text: &str) -> Result<(), AnyErro
     if name.starts_with('#') {
         return Ok(());
     }
-    match Command::parse(name, &mut words) {
+    match Command::parse(rt.alloc(), name, &mut words) {
         Ok(command) => perform(rt, bench, command)?,
         Err(reason) => println!(rt, "{name} bad {reason}")?,
     }
@@ -62,65 +69,90 @@ fn perform(rt: &LibcRuntime, bench: &mut Bench, command: Command) -> Result<(), 
         }
         Command::Quota(quotas) => {
             bench.limit(quotas);
-            let allowance = Shown(bench.engine.tell());
+            let allowance = Told(bench.engine.tell());
             println!(rt, "quota ok allowance={allowance}")?;
         }
         Command::Tell => {
-            let allowance = Shown(bench.engine.tell());
+            let allowance = Told(bench.engine.tell());
             println!(rt, "tell ok allowance={allowance}")?;
         }
-        Command::Permute(rounds, words) => {
-            let result = permute(&mut bench.engine, rounds, words);
-            let allowance = Shown(bench.engine.tell());
-            match result {
-                Ok(words) => {
-                    let words = Hex(words);
-                    println!(rt, "permute ok words={words} allowance={allowance}")?;
-                }
-                Err(fault) => {
-                    let refusal = Refused(fault);
-                    println!(rt, "permute {refusal} allowance={allowance}")?;
-                }
-            }
+        Command::Permute(rounds, words) => run_permute(rt, bench, rounds, words)?,
+        Command::SealText(job) => seal_text(rt, bench, &job)?,
+        Command::OpenText(job) => open_text(rt, bench, &job)?,
+    }
+    Ok(())
+}
+
+fn run_permute(
+    rt: &LibcRuntime,
+    bench: &mut Bench,
+    rounds: usize,
+    words: State,
+) -> Result<(), AnyError> {
+    let result = permute(&mut bench.engine, rounds, words);
+    let allowance = Told(bench.engine.tell());
+    match result {
+        Ok(words) => {
+            let words = Five(words);
+            println!(rt, "permute ok words={words} allowance={allowance}")?;
+        }
+        Err(fault) => {
+            let refusal = Refusal::of_engine(fault);
+            println!(rt, "permute {refusal} allowance={allowance}")?;
         }
     }
     Ok(())
 }
 
-#[derive(Clone, Copy)]
-struct Shown(Allowance);
+// Outputs hold this everywhere before a call, so that the answer shows what the call wrote.
+const UNWRITTEN: u8 = 0xee;
 
-impl fmt::Display for Shown as ShownDisplay {
-    fn fmt<W: fmt::Write>(&self, f: &mut fmt::Formatter<W>) -> fmt::Result {
-        match self.0 {
-            Allowance::Limited(runs) => write!(f, "{runs}"),
-            Allowance::Unlimited => f.write_str("unlimited"),
+fn seal_text(rt: &LibcRuntime, bench: &mut Bench, job: &AeadJob) -> Result<(), AnyError> {
+    let mut output = vec![in rt.alloc(); UNWRITTEN; job.room]?;
+    let result = seal(
+        &mut bench.engine,
+        &job.key,
+        &job.nonce,
+        job.front.as_slice(),
+        job.back.as_slice(),
+        job.text.as_slice(),
+        output.as_mut_slice(),
+    );
+    show_output(rt, bench, "seal-text", result, output.as_slice())
+}
+
+fn open_text(rt: &LibcRuntime, bench: &mut Bench, job: &AeadJob) -> Result<(), AnyError> {
+    let mut output = vec![in rt.alloc(); UNWRITTEN; job.room]?;
+    let result = open(
+        &mut bench.engine,
+        &job.key,
+        &job.nonce,
+        job.front.as_slice(),
+        job.back.as_slice(),
+        job.text.as_slice(),
+        output.as_mut_slice(),
+    );
+    show_output(rt, bench, "open-text", result, output.as_slice())
+}
+
+fn show_output(
+    rt: &LibcRuntime,
+    bench: &Bench,
+    name: &str,
+    result: Result<usize, SuiteFault>,
+    output: &[u8],
+) -> Result<(), AnyError> {
+    let allowance = Told(bench.engine.tell());
+    let output = digits(rt.alloc(), output)?;
+    match result {
+        Ok(length) => println!(
+            rt,
+            "{name} ok length={length} output={output} allowance={allowance}"
+        )?,
+        Err(fault) => {
+            let refusal = Refusal::of_suite(fault);
+            println!(rt, "{name} {refusal} output={output} allowance={allowance}")?;
         }
     }
-}
-
-#[derive(Clone, Copy)]
-struct Hex(State);
-
-impl fmt::Display for Hex as HexDisplay {
-    fn fmt<W: fmt::Write>(&self, f: &mut fmt::Formatter<W>) -> fmt::Result {
-        let [w0, w1, w2, w3, w4] = self.0;
-        write!(f, "{w0:016x},{w1:016x},{w2:016x},{w3:016x},{w4:016x}")
-    }
-}
-
-#[derive(Clone, Copy)]
-struct Refused(EngineFault);
-
-impl fmt::Display for Refused as RefusedDisplay {
-    fn fmt<W: fmt::Write>(&self, f: &mut fmt::Formatter<W>) -> fmt::Result {
-        let number = self.0.number();
-        let place = self.0.place();
-        let layer = match self.0.layer() {
-            Layer::Engine => "engine",
-            Layer::Suite => "suite",
-            Layer::Link => "link",
-        };
-        write!(f, "refused {number} {layer} {place}")
-    }
+    Ok(())
 }

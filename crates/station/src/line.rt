@@ -1,9 +1,15 @@
 // The words of a command line, taken one after another.
+use aead::Block;
 use hex::HexFault;
 use hex::decode;
 use hex::parse_number;
+use std::alloc::AllocError;
+use std::alloc::Global;
 use std::fmt;
 use std::str::SplitAsciiWhitespace;
+
+// The longest output that a command may ask for.
+const MOST_ROOM: u64 = 33_554_432;
 
 // Why a line is not a command.
 #[derive(Clone, Copy)]
@@ -14,6 +20,8 @@ pub enum Reason {
     NoNumber,
     OutOfRange,
     NoHex,
+    WrongLength,
+    NoMemory,
 }
 
 pub impl fmt::Display for Reason as ReasonDisplay {
@@ -26,8 +34,16 @@ pub impl fmt::Display for Reason as ReasonDisplay {
                 Reason::NoNumber => "no-number",
                 Reason::OutOfRange => "out-of-range",
                 Reason::NoHex => "no-hex",
+                Reason::WrongLength => "wrong-length",
+                Reason::NoMemory => "no-memory",
             },
         )
+    }
+}
+
+pub impl From<AllocError> for Reason as ReasonFromAlloc {
+    fn from(_: AllocError) -> Reason {
+        Reason::NoMemory
     }
 }
 
@@ -62,6 +78,38 @@ impl<'a> Line<'a> {
 
     pub fn number(&mut self) -> Result<u64, Reason> {
         number(self.some_word()?)
+    }
+
+    // A string of bytes: an even number of hexadecimal digits, or `-` for the empty one.
+    pub fn bytes(&mut self, heap: Global) -> Result<Vec<u8>, Reason> {
+        let word = self.some_word()?;
+        if word == "-" {
+            return Ok(Vec::new(heap));
+        }
+        let mut bytes = vec![in heap; 0; word.len() / 2]?;
+        match decode(word.as_bytes(), bytes.as_mut_slice()) {
+            Ok(_) => Ok(bytes),
+            Err(_) => Err(Reason::NoHex),
+        }
+    }
+
+    // A key or a nonce: 16 bytes.
+    pub fn block(&mut self) -> Result<Block, Reason> {
+        let mut block = [0; 16];
+        match decode(self.some_word()?.as_bytes(), &mut block) {
+            Ok(16) => Ok(block),
+            Err(HexFault::NotHex) => Err(Reason::NoHex),
+            _ => Err(Reason::WrongLength),
+        }
+    }
+
+    // The length of an output.
+    pub fn room(&mut self) -> Result<usize, Reason> {
+        let room = self.number()?;
+        if room > MOST_ROOM {
+            return Err(Reason::OutOfRange);
+        }
+        Ok(room as usize)
     }
 
     // A word of the state: 16 hexadecimal digits.

@@ -5,6 +5,7 @@ mod bench;
 mod command;
 mod console;
 mod line;
+mod shown;
 
 use console::serve;
 use std::error::AnyError;
