@@ -44,7 +44,7 @@ first-same a b n e h = ap (λ (o : Outcome). o .0) (sym e) ∙ h
 
 module _ (key nonce ad : List ℕ) where
   length-sealed : (text : List ℕ) → length (sealed key nonce ad text) ≡ length text + 16
-  unfolding sealed tagOf tagAt bytesOf
+  unfolding sealed tagOf bytesOf
   length-sealed text =
       length-append _ _ ∙ ap (λ (k : ℕ). k + 16) (length-ciphertext (ready key nonce ad) text)
 

@@ -17,14 +17,6 @@ use Rattle.aead.specs.Blocks.{absorbed, rate, afterBlocks, sealedBlocks, after
 use Rattle.aead.specs.Cipher.{started, dataBlocks, bound, ready, ended, tagAt, tagOf, sealed}
 use Rattle.aead.proofs.Blocks.{length-covered}
 
--- key and nonce loaded, run, and the key mixed in
-pub started-is : (key nonce : List ℕ) (k0 k1 n0 n1 : ℕ) (l p m e : List ℕ)
-    → k0 ≡ word key → k1 ≡ word (drop 8 key) → n0 ≡ word nonce → n1 ≡ word (drop 8 nonce)
-    → l ≡ 0x00001000808c0001 ∷ k0 ∷ k1 ∷ n0 ∷ n1 ∷ [] → p ≡ permuted 12 l → m ≡ mixed 3 k0 p → e ≡ mixed 4 k1 m
-    → e ≡ started key nonce
-unfolding started
-started-is key nonce k0 k1 n0 n1 l p m e a b c d f h i j = rw (j, i, h, f, a, b, c, d)
-
 pub blocks-few : (size : ℕ) → 16 * dataBlocks size ≤ size + 16
 unfolding dataBlocks
 blocks-few size = grind (arith, tells)
@@ -64,12 +56,6 @@ ciphertext-is ws text v b w out whole new same p q r is fresh =
     ∙ sym (take-append-add c (rate (absorbed (afterBlocks n ws text) (block text n))) (length text - 16 * n))
     ∙ ap (λ k. take k (c ++ rate (absorbed (afterBlocks n ws text) (block text n)))) (sym e)
     ∙ ap (take (length text)) full
-
--- the words from which the tag is read
-pub ended-is : (key ws : List ℕ) (k0 k1 : ℕ) (m n e : List ℕ)
-    → k0 ≡ word key → k1 ≡ word (drop 8 key) → m ≡ mixed 2 k0 ws → n ≡ mixed 3 k1 m → e ≡ permuted 12 n → e ≡ ended key ws
-unfolding ended
-ended-is key ws k0 k1 m n e a b c d f = rw (f, d, c, a, b)
 
 pub ready-is : (key nonce ad v e : List ℕ) → v ≡ started key nonce → e ≡ bound v ad → e ≡ ready key nonce ad
 unfolding ready

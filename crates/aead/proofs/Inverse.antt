@@ -175,7 +175,6 @@ ciphertext-plaintext ws c five h =
     ∙ xored-twice (part c i) (rate (afterOpening i ws c)) fits)
 
 length-started : (key nonce : List ℕ) → length (started key nonce) ≡ 5
-unfolding started
 length-started key nonce =
     let start = 0x00001000808c0001 ∷ word key ∷ word (drop 8 key) ∷ word nonce ∷ word (drop 8 nonce) ∷ [] in
     length-mixed 4 (word (drop 8 key)) (mixed 3 (word key) (permuted 12 start))

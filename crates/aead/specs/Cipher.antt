@@ -11,7 +11,7 @@ use Rattle.aead.specs.Blocks.{afterBlocks, afterText, ciphertext, plaintext}
 use Rattle.aead.specs.Bytes.{bytesOf, word}
 
 -- initialization: start value, key and nonce, run 12, the key again
-unfoldable pub started : List ℕ → List ℕ → List ℕ
+abbrev pub started : List ℕ → List ℕ → List ℕ
 started key nonce =
     mixed 4 (word (drop 8 key))
     (mixed 3 (word key) (permuted 12 (0x00001000808c0001 ∷ word key ∷ word (drop 8 key) ∷ word nonce ∷ word (drop 8 nonce) ∷ [])))
@@ -29,10 +29,10 @@ unfoldable pub ready : List ℕ → List ℕ → List ℕ → List ℕ
 ready key nonce ad = bound (started key nonce) ad
 
 -- finalization: the key, run 12
-unfoldable pub ended : List ℕ → List ℕ → List ℕ
+abbrev pub ended : List ℕ → List ℕ → List ℕ
 ended key ws = permuted 12 (mixed 3 (word (drop 8 key)) (mixed 2 (word key) ws))
 
-unfoldable pub tagAt : List ℕ → List ℕ → List ℕ
+abbrev pub tagAt : List ℕ → List ℕ → List ℕ
 tagAt key ws = bytesOf (bitXor (getD ws 3 0) (word key)) ++ bytesOf (bitXor (getD ws 4 0) (word (drop 8 key)))
 
 -- the tag of a text

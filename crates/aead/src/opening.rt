@@ -16,6 +16,7 @@ use crate::ending::settle;
 use crate::ending::within_limits;
 use crate::padding::block;
 use crate::steps::absorb;
+use crate::steps::absorb_rest;
 use crate::steps::finalize;
 use crate::steps::prepare;
 use crate::steps::squeeze;
@@ -68,7 +69,7 @@ fn open_text<E: Engine>(engine: &mut E, sealed: &[u8], out: &mut [u8]) -> Result
     let mask = squeeze(engine)?;
     let part = &mut out[16 * whole..sealed.len()];
     uncover(&mask, &sealed[16 * whole..sealed.len()], part);
-    absorb(engine, &block(part, &[], 0))?;
+    absorb_rest(engine, part)?;
     Ok(())
 }
 

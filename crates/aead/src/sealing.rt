@@ -14,6 +14,7 @@ use crate::ending::settle;
 use crate::ending::within_limits;
 use crate::padding::block;
 use crate::steps::absorb;
+use crate::steps::absorb_rest;
 use crate::steps::finalize;
 use crate::steps::prepare;
 use crate::steps::squeeze;
@@ -50,7 +51,7 @@ fn seal_text<E: Engine>(engine: &mut E, text: &[u8], out: &mut [u8]) -> Result<(
 {
     seal_blocks(engine, text, out)?;
     let whole = text.len() / 16;
-    absorb(engine, &block(text, &[], whole))?;
+    absorb_rest(engine, text)?;
     let last = squeeze(engine)?;
     out[16 * whole..text.len()].copy_from_slice(&last[0..text.len() - 16 * whole]);
     Ok(())

@@ -1,14 +1,17 @@
 // The steps that sealing and opening share. A step is refused only by an engine that lacks a run; it has then used the engine's runs up.
-ghost use mathlib.Core.List.{_++_};
+ghost use mathlib.Core.Bool.{cond};
+ghost use mathlib.Core.List.{[], _++_};
 ghost use mathlib.Core.Path.{_≡_};
-ghost use Prim.Native.Nat.{_+_, _*_, _≤_};
+ghost use Prim.Native.Nat.{_+_, _*_, _/_, _≤_};
+ghost use lib.Dec.{eqb};
 ghost use lib.ListN.{length};
 ghost use Rattle.std.specs.Vec.{made};
 ghost use Rattle.std.specs.declared.result.Result.the-variants.{Ok};
-ghost use Rattle.engine.specs.Meaning.{holding};
+ghost use Rattle.engine.specs.Meaning.{holding, mixed};
 ghost use Rattle.engine.specs.Of.{meaning};
 ghost use Rattle.engine.specs.Runs.{after, paid};
 ghost use Rattle.aead.specs.Blocks.{absorbed, afterBlocks, rate};
+ghost use Rattle.aead.specs.Bytes.{block as blockOf};
 ghost use Rattle.aead.specs.Cipher.{bound, dataBlocks, ended, ready, started, tagAt};
 use crate::padding::block;
 use crate::words::Block;
@@ -32,6 +35,15 @@ pub(crate) fn absorb<E: Engine>(engine: &mut E, block: &Block) -> Result<(), Eng
 {
     engine.mix(0, low_word(block))?;
     engine.mix(1, high_word(block))?;
+    Ok(())
+}
+
+// Mixes in the padded rest of a text, with no run.
+pub(crate) fn absorb_rest<E: Engine>(engine: &mut E, text: &[u8]) -> Result<(), EngineFault>
+    ensures never_refused { λ r. ⌜ r ≡ Ok tt ⌝ }
+    ensures rest_mixed { λ _. ⌜ meaning E·Engine (now (engine .exit)) ≡ holding (absorbed (words (now (engine .entry))) (blockOf (now (text .entry) ++ []) (length (now (text .entry)) / 16))) (meaning E·Engine (now (engine .entry))) ⌝ }
+{
+    absorb(engine, &block(text, &[], text.len() / 16))?;
     Ok(())
 }
 
@@ -59,7 +71,7 @@ fn initialize<E: Engine>(engine: &mut E, key: &Block, nonce: &Block) -> Result<(
 
 // How many blocks so many bytes of associated data make.
 fn data_blocks(size: usize) -> usize
-    ensures count_is { λ r. ⌜ r ≡ dataBlocks size ⌝ }
+    ensures count_is { λ r. ⌜ r ≡ cond (eqb size 0) 0 (size / 16 + 1) ⌝ }
 {
     if size == 0 { 0 } else { size / 16 + 1 }
 }
@@ -83,6 +95,15 @@ fn absorb_blocks<E: Engine>(
     Ok(())
 }
 
+// Marks the end of the associated data.
+fn mark_domain<E: Engine>(engine: &mut E) -> Result<(), EngineFault>
+    ensures never_refused { λ r. ⌜ r ≡ Ok tt ⌝ }
+    ensures mark_mixed { λ _. ⌜ meaning E·Engine (now (engine .exit)) ≡ holding (mixed 4 0x8000000000000000 (words (now (engine .entry)))) (meaning E·Engine (now (engine .entry))) ⌝ }
+{
+    engine.mix(4, DOMAIN)?;
+    Ok(())
+}
+
 // Associated data, given as two joined parts, and then always the domain mark.
 fn absorb_data<E: Engine>(engine: &mut E, front: &[u8], back: &[u8]) -> Result<(), EngineFault>
     ensures paid_or_refused { λ r. ⌜ r ≡ paid (dataBlocks (length (now (front .entry)) + length (now (back .entry)))) (meaning E·Engine (now (engine .entry))) tt ⌝ }
@@ -91,7 +112,7 @@ fn absorb_data<E: Engine>(engine: &mut E, front: &[u8], back: &[u8]) -> Result<(
 {
     let count = data_blocks(front.len() + back.len());
     absorb_blocks(engine, front, back, count)?;
-    engine.mix(4, DOMAIN)?;
+    mark_domain(engine)?;
     Ok(())
 }
 

@@ -4,3 +4,5 @@
 mod engine_calls;
 #[cfg(test)]
 mod quota_piles;
+#[cfg(test)]
+mod sealed_texts;
