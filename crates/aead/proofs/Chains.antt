@@ -21,12 +21,6 @@ pub blocks-few : (size : ℕ) → 16 * dataBlocks size ≤ size + 16
 unfolding dataBlocks
 blocks-few size = grind (arith, tells)
 
--- associated data absorbed, and its end marked
-pub bound-is : (ws xs ys : List ℕ) (n : ℕ) (v e : List ℕ) → n ≡ dataBlocks (length xs + length ys) → v ≡ afterBlocks n ws (xs ++ ys) → e ≡ mixed 4 0x8000000000000000 v
-    → e ≡ bound ws (xs ++ ys)
-unfolding bound
-bound-is ws xs ys n v e p q r = r ∙ ap (λ (u : List ℕ). mixed 4 0x8000000000000000 u) (q ∙ ap (λ k. afterBlocks k ws (xs ++ ys)) (p ∙ ap dataBlocks (sym (length-append xs ys))))
-
 -- the rest of a text absorbed
 pub after-text-is : (ws text v b e : List ℕ) → v ≡ afterBlocks (length text / 16) ws text → b ≡ block text (length text / 16) → e ≡ absorbed v b → e ≡ afterText ws text
 unfolding afterText

@@ -182,7 +182,7 @@ length-started key nonce =
     ∙ length-permuted 12 start refl
 
 length-ready : (key nonce ad : List ℕ) → length (ready key nonce ad) ≡ 5
-unfolding ready bound
+unfolding ready
 length-ready key nonce ad =
     length-mixed 4 0x8000000000000000 (afterBlocks (dataBlocks (length ad)) (started key nonce) ad)
     ∙ length-after (dataBlocks (length ad)) (started key nonce) ad (length-started key nonce)

@@ -21,7 +21,7 @@ unfoldable pub dataBlocks : ℕ → ℕ
 dataBlocks size = cond (eqb size 0) 0 (size / 16 + 1)
 
 -- associated data, with run 8 after each block, and then always the domain mark
-unfoldable pub bound : List ℕ → List ℕ → List ℕ
+abbrev pub bound : List ℕ → List ℕ → List ℕ
 bound ws ad = mixed 4 0x8000000000000000 (afterBlocks (dataBlocks (length ad)) ws ad)
 
 -- the words before the text

@@ -33,7 +33,9 @@ pub(crate) fn settle<E: Engine>(
     result: Result<(), SuiteFault>,
 ) -> Result<usize, SuiteFault>
     ensures answer_settled { λ r. ⌜ r ≡ settled runs (length (now (out .entry))) result ⌝ }
-    ensures refused_output_zero { λ _. ⌜ now (out .exit) ≡ cond (isOk result) (now (out .entry)) (replicate (length (now (out .entry))) 0) ⌝ }
+    ensures refused_output_zero { λ _. ⌜
+        now (out .exit)
+        ≡ cond (isOk result) (now (out .entry)) (replicate (length (now (out .entry))) 0) ⌝ }
     ensures words_wiped { λ _. ⌜ meaning E·Engine (now (engine .exit)) ≡ wiped (meaning E·Engine (now (engine .entry))) ⌝ }
 {
     engine.load(0, 0, 0, 0, 0);

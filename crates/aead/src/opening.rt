@@ -42,9 +42,16 @@ fn uncover(mask: &Block, sealed: &[u8], out: &mut [u8])
 fn open_blocks<E: Engine>(engine: &mut E, sealed: &[u8], out: &mut [u8]) -> Result<(), EngineFault>
     requires len { ⌜ length (now out) ≡ length (now sealed) ⌝ }
     ensures paid_or_refused { λ r. ⌜ r ≡ paid (length (now (sealed .entry)) / 16) (meaning E·Engine (now (engine .entry))) tt ⌝ }
-    ensures blocks_absorbed { λ r. ⌜ made r (λ _. words (now (engine .exit)) ≡ afterOpening (length (now (sealed .entry)) / 16) (words (now (engine .entry))) (now (sealed .entry))) ⌝ }
-    ensures blocks_written { λ r. ⌜ made r (λ _. now (out .exit) ≡ openedBlocks (length (now (sealed .entry)) / 16) (words (now (engine .entry))) (now (sealed .entry)) ++ drop (16 * (length (now (sealed .entry)) / 16)) (now (out .entry))) ⌝ }
-    ensures runs_spent { λ _. ⌜ meaning E·Engine (now (engine .exit)) ≡ after (length (now (sealed .entry)) / 16) (words (now (engine .exit))) (meaning E·Engine (now (engine .entry))) ⌝ }
+    ensures blocks_absorbed { λ r. ⌜
+        made r (λ _. words (now (engine .exit))
+        ≡ afterOpening (length (now (sealed .entry)) / 16) (words (now (engine .entry))) (now (sealed .entry))) ⌝ }
+    ensures blocks_written { λ r. ⌜
+        made r (λ _. now (out .exit)
+        ≡ openedBlocks (length (now (sealed .entry)) / 16) (words (now (engine .entry))) (now (sealed .entry)) ++ drop (16 * (length
+        (now (sealed .entry)) / 16)) (now (out .entry))) ⌝ }
+    ensures runs_spent { λ _. ⌜
+        meaning E·Engine (now (engine .exit))
+        ≡ after (length (now (sealed .entry)) / 16) (words (now (engine .exit))) (meaning E·Engine (now (engine .entry))) ⌝ }
 {
     for i in 0..sealed.len() / 16 {
         let mask = squeeze(engine)?;
@@ -60,9 +67,15 @@ fn open_blocks<E: Engine>(engine: &mut E, sealed: &[u8], out: &mut [u8]) -> Resu
 fn open_text<E: Engine>(engine: &mut E, sealed: &[u8], out: &mut [u8]) -> Result<(), EngineFault>
     requires len { ⌜ length (now out) ≡ length (now sealed) ⌝ }
     ensures paid_or_refused { λ r. ⌜ r ≡ paid (length (now (sealed .entry)) / 16) (meaning E·Engine (now (engine .entry))) tt ⌝ }
-    ensures text_absorbed { λ r. ⌜ made r (λ _. words (now (engine .exit)) ≡ afterText (words (now (engine .entry))) (plaintext (words (now (engine .entry))) (now (sealed .entry)))) ⌝ }
-    ensures plaintext_written { λ r. ⌜ made r (λ _. now (out .exit) ≡ plaintext (words (now (engine .entry))) (now (sealed .entry))) ⌝ }
-    ensures runs_spent { λ _. ⌜ meaning E·Engine (now (engine .exit)) ≡ after (length (now (sealed .entry)) / 16) (words (now (engine .exit))) (meaning E·Engine (now (engine .entry))) ⌝ }
+    ensures text_absorbed { λ r. ⌜
+        made r (λ _. words (now (engine .exit))
+        ≡ afterText (words (now (engine .entry))) (plaintext (words (now (engine .entry))) (now (sealed .entry)))) ⌝ }
+    ensures plaintext_written { λ r. ⌜
+        made r (λ _. now (out .exit)
+        ≡ plaintext (words (now (engine .entry))) (now (sealed .entry))) ⌝ }
+    ensures runs_spent { λ _. ⌜
+        meaning E·Engine (now (engine .exit))
+        ≡ after (length (now (sealed .entry)) / 16) (words (now (engine .exit))) (meaning E·Engine (now (engine .entry))) ⌝ }
 {
     open_blocks(engine, sealed, out)?;
     let whole = sealed.len() / 16;
@@ -84,9 +97,18 @@ fn open_steps<E: Engine>(
     out: &mut [u8],
 ) -> Result<Block, EngineFault>
     requires len { ⌜ length (now out) ≡ length (now sealed) ⌝ }
-    ensures paid_or_refused { λ r. ⌜ r ≡ paid (cost (length (now (front .entry)) + length (now (back .entry))) (length (now (sealed .entry)))) (meaning E·Engine (now (engine .entry))) (tagOf (now (key .entry)) (now (nonce .entry)) (now (front .entry) ++ now (back .entry)) (unsealed (now (key .entry)) (now (nonce .entry)) (now (front .entry) ++ now (back .entry)) (now (sealed .entry)))) ⌝ }
-    ensures text_written { λ r. ⌜ made r (λ _. now (out .exit) ≡ unsealed (now (key .entry)) (now (nonce .entry)) (now (front .entry) ++ now (back .entry)) (now (sealed .entry))) ⌝ }
-    ensures runs_spent { λ _. ⌜ meaning E·Engine (now (engine .exit)) ≡ after (cost (length (now (front .entry)) + length (now (back .entry))) (length (now (sealed .entry)))) (words (now (engine .exit))) (meaning E·Engine (now (engine .entry))) ⌝ }
+    ensures paid_or_refused { λ r. ⌜
+        r
+        ≡ paid (cost (length (now (front .entry)) + length (now (back .entry))) (length (now (sealed .entry)))) (meaning E·Engine
+        (now (engine .entry))) (tagOf (now (key .entry)) (now (nonce .entry)) (now (front .entry) ++ now (back .entry)) (unsealed
+        (now (key .entry)) (now (nonce .entry)) (now (front .entry) ++ now (back .entry)) (now (sealed .entry)))) ⌝ }
+    ensures text_written { λ r. ⌜
+        made r (λ _. now (out .exit)
+        ≡ unsealed (now (key .entry)) (now (nonce .entry)) (now (front .entry) ++ now (back .entry)) (now (sealed .entry))) ⌝ }
+    ensures runs_spent { λ _. ⌜
+        meaning E·Engine (now (engine .exit))
+        ≡ after (cost (length (now (front .entry)) + length (now (back .entry))) (length (now (sealed .entry)))) (words (now (engine
+        .exit))) (meaning E·Engine (now (engine .entry))) ⌝ }
 {
     prepare(engine, key, nonce, front, back)?;
     open_text(engine, sealed, out)?;
@@ -126,7 +148,10 @@ pub fn open<E: Engine>(
     sealed: &[u8],
     out: &mut [u8],
 ) -> Result<usize, SuiteFault>
-    ensures opened_or_refused { λ r. ⌜ (r, now (out .exit), meaning E·Engine (now (engine .exit))) ≡ openingOf (now (key .entry)) (now (nonce .entry)) (now (front .entry) ++ now (back .entry)) (now (sealed .entry)) (now (out .entry)) (meaning E·Engine (now (engine .entry))) ⌝ }
+    ensures opened_or_refused { λ r. ⌜
+        (r, now (out .exit), meaning E·Engine (now (engine .exit)))
+        ≡ openingOf (now (key .entry)) (now (nonce .entry)) (now (front .entry) ++ now (back .entry)) (now (sealed .entry)) (now
+        (out .entry)) (meaning E·Engine (now (engine .entry))) ⌝ }
     ensures sealing_undoes_opening { λ _. ⌜ SealingUndoesOpening ⌝ }
     ensures accepts_exactly_sealed_texts { λ _. ⌜ AcceptsExactlySealed ⌝ }
 {
@@ -142,7 +167,10 @@ fn open_or_refuse<E: Engine>(
     sealed: &[u8],
     out: &mut [u8],
 ) -> Result<usize, SuiteFault>
-    ensures opened_or_refused { λ r. ⌜ (r, now (out .exit), meaning E·Engine (now (engine .exit))) ≡ openingOf (now (key .entry)) (now (nonce .entry)) (now (front .entry) ++ now (back .entry)) (now (sealed .entry)) (now (out .entry)) (meaning E·Engine (now (engine .entry))) ⌝ }
+    ensures opened_or_refused { λ r. ⌜
+        (r, now (out .exit), meaning E·Engine (now (engine .exit)))
+        ≡ openingOf (now (key .entry)) (now (nonce .entry)) (now (front .entry) ++ now (back .entry)) (now (sealed .entry)) (now
+        (out .entry)) (meaning E·Engine (now (engine .entry))) ⌝ }
 {
     if sealed.len() < 16 {
         return Err(SuiteFault::TagMissing);

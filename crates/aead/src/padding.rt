@@ -8,7 +8,9 @@ use crate::words::Block;
 
 // Block `index` of the joined parts.
 pub(crate) fn block(front: &[u8], back: &[u8], index: usize) -> Block
-    ensures block_is { λ r. ⌜ (16 * index ≤ length (now (front .entry)) + length (now (back .entry)) → r ≡ blockOf (now (front .entry) ++ now (back .entry)) index) ⌝ }
+    ensures block_is { λ r. ⌜
+        (16 * index ≤ length (now (front .entry)) + length (now (back .entry)) → r
+        ≡ blockOf (now (front .entry) ++ now (back .entry)) index) ⌝ }
 {
     let start = index.saturating_mul(16);
     if start <= front.len() && front.len() - start >= 16 {
@@ -29,7 +31,9 @@ fn sixteen(bytes: &[u8]) -> Block
 
 // The sixteen bytes from a place on, one by one: the block that holds the end of a part.
 fn gathered(front: &[u8], back: &[u8], start: usize) -> Block
-    ensures block_is { λ r. ⌜ (start ≤ length (now (front .entry)) + length (now (back .entry)) → r ≡ take 16 (drop start (padded (now (front .entry) ++ now (back .entry))))) ⌝ }
+    ensures block_is { λ r. ⌜
+        (start ≤ length (now (front .entry)) + length (now (back .entry)) → r
+        ≡ take 16 (drop start (padded (now (front .entry) ++ now (back .entry))))) ⌝ }
 {
     let mut block = [0; 16];
     for i in 0..16 {

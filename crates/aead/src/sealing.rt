@@ -29,9 +29,16 @@ use suite::SuiteFromEngine;
 fn seal_blocks<E: Engine>(engine: &mut E, text: &[u8], out: &mut [u8]) -> Result<(), EngineFault>
     requires len { ⌜ length (now out) ≡ length (now text) ⌝ }
     ensures paid_or_refused { λ r. ⌜ r ≡ paid (length (now (text .entry)) / 16) (meaning E·Engine (now (engine .entry))) tt ⌝ }
-    ensures blocks_absorbed { λ r. ⌜ made r (λ _. words (now (engine .exit)) ≡ afterBlocks (length (now (text .entry)) / 16) (words (now (engine .entry))) (now (text .entry))) ⌝ }
-    ensures blocks_written { λ r. ⌜ made r (λ _. now (out .exit) ≡ sealedBlocks (length (now (text .entry)) / 16) (words (now (engine .entry))) (now (text .entry)) ++ drop (16 * (length (now (text .entry)) / 16)) (now (out .entry))) ⌝ }
-    ensures runs_spent { λ _. ⌜ meaning E·Engine (now (engine .exit)) ≡ after (length (now (text .entry)) / 16) (words (now (engine .exit))) (meaning E·Engine (now (engine .entry))) ⌝ }
+    ensures blocks_absorbed { λ r. ⌜
+        made r (λ _. words (now (engine .exit))
+        ≡ afterBlocks (length (now (text .entry)) / 16) (words (now (engine .entry))) (now (text .entry))) ⌝ }
+    ensures blocks_written { λ r. ⌜
+        made r (λ _. now (out .exit)
+        ≡ sealedBlocks (length (now (text .entry)) / 16) (words (now (engine .entry))) (now (text .entry)) ++ drop (16 * (length
+        (now (text .entry)) / 16)) (now (out .entry))) ⌝ }
+    ensures runs_spent { λ _. ⌜
+        meaning E·Engine (now (engine .exit))
+        ≡ after (length (now (text .entry)) / 16) (words (now (engine .exit))) (meaning E·Engine (now (engine .entry))) ⌝ }
 {
     for i in 0..text.len() / 16 {
         absorb(engine, &block(text, &[], i))?;
@@ -45,9 +52,15 @@ fn seal_blocks<E: Engine>(engine: &mut E, text: &[u8], out: &mut [u8]) -> Result
 fn seal_text<E: Engine>(engine: &mut E, text: &[u8], out: &mut [u8]) -> Result<(), EngineFault>
     requires len { ⌜ length (now out) ≡ length (now text) ⌝ }
     ensures paid_or_refused { λ r. ⌜ r ≡ paid (length (now (text .entry)) / 16) (meaning E·Engine (now (engine .entry))) tt ⌝ }
-    ensures text_absorbed { λ r. ⌜ made r (λ _. words (now (engine .exit)) ≡ afterText (words (now (engine .entry))) (now (text .entry))) ⌝ }
-    ensures ciphertext_written { λ r. ⌜ made r (λ _. now (out .exit) ≡ ciphertext (words (now (engine .entry))) (now (text .entry))) ⌝ }
-    ensures runs_spent { λ _. ⌜ meaning E·Engine (now (engine .exit)) ≡ after (length (now (text .entry)) / 16) (words (now (engine .exit))) (meaning E·Engine (now (engine .entry))) ⌝ }
+    ensures text_absorbed { λ r. ⌜
+        made r (λ _. words (now (engine .exit))
+        ≡ afterText (words (now (engine .entry))) (now (text .entry))) ⌝ }
+    ensures ciphertext_written { λ r. ⌜
+        made r (λ _. now (out .exit)
+        ≡ ciphertext (words (now (engine .entry))) (now (text .entry))) ⌝ }
+    ensures runs_spent { λ _. ⌜
+        meaning E·Engine (now (engine .exit))
+        ≡ after (length (now (text .entry)) / 16) (words (now (engine .exit))) (meaning E·Engine (now (engine .entry))) ⌝ }
 {
     seal_blocks(engine, text, out)?;
     let whole = text.len() / 16;
@@ -68,9 +81,17 @@ fn seal_steps<E: Engine>(
     out: &mut [u8],
 ) -> Result<(), EngineFault>
     requires len { ⌜ length (now out) ≡ length (now text) + 16 ⌝ }
-    ensures paid_or_refused { λ r. ⌜ r ≡ paid (cost (length (now (front .entry)) + length (now (back .entry))) (length (now (text .entry)))) (meaning E·Engine (now (engine .entry))) tt ⌝ }
-    ensures sealed_written { λ r. ⌜ made r (λ _. now (out .exit) ≡ sealed (now (key .entry)) (now (nonce .entry)) (now (front .entry) ++ now (back .entry)) (now (text .entry))) ⌝ }
-    ensures runs_spent { λ _. ⌜ meaning E·Engine (now (engine .exit)) ≡ after (cost (length (now (front .entry)) + length (now (back .entry))) (length (now (text .entry)))) (words (now (engine .exit))) (meaning E·Engine (now (engine .entry))) ⌝ }
+    ensures paid_or_refused { λ r. ⌜
+        r
+        ≡ paid (cost (length (now (front .entry)) + length (now (back .entry))) (length (now (text .entry)))) (meaning E·Engine (now
+        (engine .entry))) tt ⌝ }
+    ensures sealed_written { λ r. ⌜
+        made r (λ _. now (out .exit)
+        ≡ sealed (now (key .entry)) (now (nonce .entry)) (now (front .entry) ++ now (back .entry)) (now (text .entry))) ⌝ }
+    ensures runs_spent { λ _. ⌜
+        meaning E·Engine (now (engine .exit))
+        ≡ after (cost (length (now (front .entry)) + length (now (back .entry))) (length (now (text .entry)))) (words (now (engine
+        .exit))) (meaning E·Engine (now (engine .entry))) ⌝ }
 {
     prepare(engine, key, nonce, front, back)?;
     seal_text(engine, text, &mut out[0..text.len()])?;
@@ -98,7 +119,10 @@ pub fn seal<E: Engine>(
     text: &[u8],
     out: &mut [u8],
 ) -> Result<usize, SuiteFault>
-    ensures sealed_or_refused { λ r. ⌜ (r, now (out .exit), meaning E·Engine (now (engine .exit))) ≡ sealingOf (now (key .entry)) (now (nonce .entry)) (now (front .entry) ++ now (back .entry)) (now (text .entry)) (now (out .entry)) (meaning E·Engine (now (engine .entry))) ⌝ }
+    ensures sealed_or_refused { λ r. ⌜
+        (r, now (out .exit), meaning E·Engine (now (engine .exit)))
+        ≡ sealingOf (now (key .entry)) (now (nonce .entry)) (now (front .entry) ++ now (back .entry)) (now (text .entry)) (now (out
+        .entry)) (meaning E·Engine (now (engine .entry))) ⌝ }
     ensures opening_undoes_sealing { λ _. ⌜ OpeningUndoesSealing ⌝ }
 {
     seal_or_refuse(engine, key, nonce, front, back, text, out)
@@ -113,7 +137,10 @@ fn seal_or_refuse<E: Engine>(
     text: &[u8],
     out: &mut [u8],
 ) -> Result<usize, SuiteFault>
-    ensures sealed_or_refused { λ r. ⌜ (r, now (out .exit), meaning E·Engine (now (engine .exit))) ≡ sealingOf (now (key .entry)) (now (nonce .entry)) (now (front .entry) ++ now (back .entry)) (now (text .entry)) (now (out .entry)) (meaning E·Engine (now (engine .entry))) ⌝ }
+    ensures sealed_or_refused { λ r. ⌜
+        (r, now (out .exit), meaning E·Engine (now (engine .exit)))
+        ≡ sealingOf (now (key .entry)) (now (nonce .entry)) (now (front .entry) ++ now (back .entry)) (now (text .entry)) (now (out
+        .entry)) (meaning E·Engine (now (engine .entry))) ⌝ }
 {
     within_limits(front.len(), back.len(), text.len())?;
     let size = text.len() + 16;

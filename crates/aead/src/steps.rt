@@ -31,7 +31,9 @@ const DOMAIN: u64 = 0x8000_0000_0000_0000;
 // Mixes a block into w0 and w1.
 pub(crate) fn absorb<E: Engine>(engine: &mut E, block: &Block) -> Result<(), EngineFault>
     ensures never_refused { λ r. ⌜ r ≡ Ok tt ⌝ }
-    ensures block_mixed { λ _. ⌜ meaning E·Engine (now (engine .exit)) ≡ holding (absorbed (words (now (engine .entry))) (now (block .entry))) (meaning E·Engine (now (engine .entry))) ⌝ }
+    ensures block_mixed { λ _. ⌜
+        meaning E·Engine (now (engine .exit))
+        ≡ holding (absorbed (words (now (engine .entry))) (now (block .entry))) (meaning E·Engine (now (engine .entry))) ⌝ }
 {
     engine.mix(0, low_word(block))?;
     engine.mix(1, high_word(block))?;
@@ -41,7 +43,10 @@ pub(crate) fn absorb<E: Engine>(engine: &mut E, block: &Block) -> Result<(), Eng
 // Mixes in the padded rest of a text, with no run.
 pub(crate) fn absorb_rest<E: Engine>(engine: &mut E, text: &[u8]) -> Result<(), EngineFault>
     ensures never_refused { λ r. ⌜ r ≡ Ok tt ⌝ }
-    ensures rest_mixed { λ _. ⌜ meaning E·Engine (now (engine .exit)) ≡ holding (absorbed (words (now (engine .entry))) (blockOf (now (text .entry) ++ []) (length (now (text .entry)) / 16))) (meaning E·Engine (now (engine .entry))) ⌝ }
+    ensures rest_mixed { λ _. ⌜
+        meaning E·Engine (now (engine .exit))
+        ≡ holding (absorbed (words (now (engine .entry))) (blockOf (now (text .entry) ++ []) (length (now (text .entry)) / 16)))
+        (meaning E·Engine (now (engine .entry))) ⌝ }
 {
     absorb(engine, &block(text, &[], text.len() / 16))?;
     Ok(())
@@ -58,7 +63,9 @@ pub(crate) fn squeeze<E: Engine>(engine: &E) -> Result<Block, EngineFault>
 fn initialize<E: Engine>(engine: &mut E, key: &Block, nonce: &Block) -> Result<(), EngineFault>
     ensures paid_or_refused { λ r. ⌜ r ≡ paid 1 (meaning E·Engine (now (engine .entry))) tt ⌝ }
     ensures words_started { λ r. ⌜ made r (λ _. words (now (engine .exit)) ≡ started (now (key .entry)) (now (nonce .entry))) ⌝ }
-    ensures runs_spent { λ _. ⌜ meaning E·Engine (now (engine .exit)) ≡ after 1 (words (now (engine .exit))) (meaning E·Engine (now (engine .entry))) ⌝ }
+    ensures runs_spent { λ _. ⌜
+        meaning E·Engine (now (engine .exit))
+        ≡ after 1 (words (now (engine .exit))) (meaning E·Engine (now (engine .entry))) ⌝ }
 {
     let k0 = low_word(key);
     let k1 = high_word(key);
@@ -85,8 +92,12 @@ fn absorb_blocks<E: Engine>(
 ) -> Result<(), EngineFault>
     requires within { ⌜ 16 * count ≤ length (now front) + length (now back) + 16 ⌝ }
     ensures paid_or_refused { λ r. ⌜ r ≡ paid count (meaning E·Engine (now (engine .entry))) tt ⌝ }
-    ensures blocks_absorbed { λ r. ⌜ made r (λ _. words (now (engine .exit)) ≡ afterBlocks count (words (now (engine .entry))) (now (front .entry) ++ now (back .entry))) ⌝ }
-    ensures runs_spent { λ _. ⌜ meaning E·Engine (now (engine .exit)) ≡ after count (words (now (engine .exit))) (meaning E·Engine (now (engine .entry))) ⌝ }
+    ensures blocks_absorbed { λ r. ⌜
+        made r (λ _. words (now (engine .exit))
+        ≡ afterBlocks count (words (now (engine .entry))) (now (front .entry) ++ now (back .entry))) ⌝ }
+    ensures runs_spent { λ _. ⌜
+        meaning E·Engine (now (engine .exit))
+        ≡ after count (words (now (engine .exit))) (meaning E·Engine (now (engine .entry))) ⌝ }
 {
     for i in 0..count {
         absorb(engine, &block(front, back, i))?;
@@ -98,20 +109,47 @@ fn absorb_blocks<E: Engine>(
 // Marks the end of the associated data.
 fn mark_domain<E: Engine>(engine: &mut E) -> Result<(), EngineFault>
     ensures never_refused { λ r. ⌜ r ≡ Ok tt ⌝ }
-    ensures mark_mixed { λ _. ⌜ meaning E·Engine (now (engine .exit)) ≡ holding (mixed 4 0x8000000000000000 (words (now (engine .entry)))) (meaning E·Engine (now (engine .entry))) ⌝ }
+    ensures mark_mixed { λ _. ⌜
+        meaning E·Engine (now (engine .exit))
+        ≡ holding (mixed 4 0x8000000000000000 (words (now (engine .entry)))) (meaning E·Engine (now (engine .entry))) ⌝ }
 {
     engine.mix(4, DOMAIN)?;
     Ok(())
 }
 
-// Associated data, given as two joined parts, and then always the domain mark.
-fn absorb_data<E: Engine>(engine: &mut E, front: &[u8], back: &[u8]) -> Result<(), EngineFault>
-    ensures paid_or_refused { λ r. ⌜ r ≡ paid (dataBlocks (length (now (front .entry)) + length (now (back .entry)))) (meaning E·Engine (now (engine .entry))) tt ⌝ }
-    ensures data_bound { λ r. ⌜ made r (λ _. words (now (engine .exit)) ≡ bound (words (now (engine .entry))) (now (front .entry) ++ now (back .entry))) ⌝ }
-    ensures runs_spent { λ _. ⌜ meaning E·Engine (now (engine .exit)) ≡ after (dataBlocks (length (now (front .entry)) + length (now (back .entry)))) (words (now (engine .exit))) (meaning E·Engine (now (engine .entry))) ⌝ }
+// Absorbs all blocks of associated data, given as two joined parts.
+fn absorb_all<E: Engine>(engine: &mut E, front: &[u8], back: &[u8]) -> Result<(), EngineFault>
+    ensures paid_or_refused { λ r. ⌜
+        r
+        ≡ paid (dataBlocks (length (now (front .entry)) + length (now (back .entry)))) (meaning E·Engine (now (engine .entry))) tt ⌝ }
+    ensures data_absorbed { λ r. ⌜
+        made r (λ _. words (now (engine .exit))
+        ≡ afterBlocks (dataBlocks (length (now (front .entry) ++ now (back .entry)))) (words (now (engine .entry))) (now (front
+        .entry) ++ now (back .entry))) ⌝ }
+    ensures runs_spent { λ _. ⌜
+        meaning E·Engine (now (engine .exit))
+        ≡ after (dataBlocks (length (now (front .entry)) + length (now (back .entry)))) (words (now (engine .exit))) (meaning
+        E·Engine (now (engine .entry))) ⌝ }
 {
     let count = data_blocks(front.len() + back.len());
     absorb_blocks(engine, front, back, count)?;
+    Ok(())
+}
+
+// Associated data, and then always the domain mark.
+fn absorb_data<E: Engine>(engine: &mut E, front: &[u8], back: &[u8]) -> Result<(), EngineFault>
+    ensures paid_or_refused { λ r. ⌜
+        r
+        ≡ paid (dataBlocks (length (now (front .entry)) + length (now (back .entry)))) (meaning E·Engine (now (engine .entry))) tt ⌝ }
+    ensures data_bound { λ r. ⌜
+        made r (λ _. words (now (engine .exit))
+        ≡ bound (words (now (engine .entry))) (now (front .entry) ++ now (back .entry))) ⌝ }
+    ensures runs_spent { λ _. ⌜
+        meaning E·Engine (now (engine .exit))
+        ≡ after (dataBlocks (length (now (front .entry)) + length (now (back .entry)))) (words (now (engine .exit))) (meaning
+        E·Engine (now (engine .entry))) ⌝ }
+{
+    absorb_all(engine, front, back)?;
     mark_domain(engine)?;
     Ok(())
 }
@@ -124,9 +162,17 @@ pub(crate) fn prepare<E: Engine>(
     front: &[u8],
     back: &[u8],
 ) -> Result<(), EngineFault>
-    ensures paid_or_refused { λ r. ⌜ r ≡ paid (1 + dataBlocks (length (now (front .entry)) + length (now (back .entry)))) (meaning E·Engine (now (engine .entry))) tt ⌝ }
-    ensures words_ready { λ r. ⌜ made r (λ _. words (now (engine .exit)) ≡ ready (now (key .entry)) (now (nonce .entry)) (now (front .entry) ++ now (back .entry))) ⌝ }
-    ensures runs_spent { λ _. ⌜ meaning E·Engine (now (engine .exit)) ≡ after (1 + dataBlocks (length (now (front .entry)) + length (now (back .entry)))) (words (now (engine .exit))) (meaning E·Engine (now (engine .entry))) ⌝ }
+    ensures paid_or_refused { λ r. ⌜
+        r
+        ≡ paid (1 + dataBlocks (length (now (front .entry)) + length (now (back .entry)))) (meaning E·Engine (now (engine .entry)))
+        tt ⌝ }
+    ensures words_ready { λ r. ⌜
+        made r (λ _. words (now (engine .exit))
+        ≡ ready (now (key .entry)) (now (nonce .entry)) (now (front .entry) ++ now (back .entry))) ⌝ }
+    ensures runs_spent { λ _. ⌜
+        meaning E·Engine (now (engine .exit))
+        ≡ after (1 + dataBlocks (length (now (front .entry)) + length (now (back .entry)))) (words (now (engine .exit))) (meaning
+        E·Engine (now (engine .entry))) ⌝ }
 {
     initialize(engine, key, nonce)?;
     absorb_data(engine, front, back)?;
@@ -135,8 +181,13 @@ pub(crate) fn prepare<E: Engine>(
 
 // Finalization: the key, run 12, and the tag.
 pub(crate) fn finalize<E: Engine>(engine: &mut E, key: &Block) -> Result<Block, EngineFault>
-    ensures paid_or_refused { λ r. ⌜ r ≡ paid 1 (meaning E·Engine (now (engine .entry))) (tagAt (now (key .entry)) (ended (now (key .entry)) (words (now (engine .entry))))) ⌝ }
-    ensures runs_spent { λ _. ⌜ meaning E·Engine (now (engine .exit)) ≡ after 1 (words (now (engine .exit))) (meaning E·Engine (now (engine .entry))) ⌝ }
+    ensures paid_or_refused { λ r. ⌜
+        r
+        ≡ paid 1 (meaning E·Engine (now (engine .entry))) (tagAt (now (key .entry)) (ended (now (key .entry)) (words (now (engine
+        .entry))))) ⌝ }
+    ensures runs_spent { λ _. ⌜
+        meaning E·Engine (now (engine .exit))
+        ≡ after 1 (words (now (engine .exit))) (meaning E·Engine (now (engine .entry))) ⌝ }
 {
     let k0 = low_word(key);
     let k1 = high_word(key);

@@ -21,12 +21,16 @@ pub trait Engine {
 
     // Sets the five words.
     fn load(&mut self, w0: u64, w1: u64, w2: u64, w3: u64, w4: u64)
-        ensures five_words_set { λ _. ⌜ joined words allowance (now (self .exit)) ≡ loaded w0 w1 w2 w3 w4 (joined words allowance (now (self .entry))) ⌝ }
+        ensures five_words_set { λ _. ⌜
+            joined words allowance (now (self .exit))
+            ≡ loaded w0 w1 w2 w3 w4 (joined words allowance (now (self .entry))) ⌝ }
         ensures same_lender { λ _. ⌜ lender (now (self .exit)) ≡ lender (now (self .entry)) ⌝ };
 
     // XORs a value into the word at a place.
     fn mix(&mut self, place: usize, value: u64) -> Result<(), EngineFault>
-        ensures value_mixed_or_unchanged { λ r. ⌜ (r, joined words allowance (now (self .exit))) ≡ mix place value (joined words allowance (now (self .entry))) ⌝ }
+        ensures value_mixed_or_unchanged { λ r. ⌜
+            (r, joined words allowance (now (self .exit)))
+            ≡ mix place value (joined words allowance (now (self .entry))) ⌝ }
         ensures same_lender { λ _. ⌜ lender (now (self .exit)) ≡ lender (now (self .entry)) ⌝ };
 
     // Answers the word at a place.
@@ -39,6 +43,8 @@ pub trait Engine {
 
     // Makes 1 to 16 rounds of the permutation, and lowers a numbered allowance by 1.
     fn run(&mut self, rounds: usize) -> Result<(), EngineFault>
-        ensures run_made_or_unchanged { λ r. ⌜ (r, joined words allowance (now (self .exit))) ≡ run rounds (joined words allowance (now (self .entry))) ⌝ }
+        ensures run_made_or_unchanged { λ r. ⌜
+            (r, joined words allowance (now (self .exit)))
+            ≡ run rounds (joined words allowance (now (self .entry))) ⌝ }
         ensures same_lender { λ _. ⌜ lender (now (self .exit)) ≡ lender (now (self .entry)) ⌝ };
 }

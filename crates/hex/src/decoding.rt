@@ -33,7 +33,9 @@ fn decode_text(text: &[u8], bytes: &mut [u8]) -> Result<usize, HexFault>
 // Whether the text is an even number of digits.
 fn is_hex(text: &[u8]) -> bool
     ensures hex_is { λ r. ⌜ r ≡ isHex (now (text .entry)) ⌝ }
-    ensures digits_only { λ r. ⌜ (r ≡ true → (k : ℕ) → k < length (now (text .entry)) → digitValue (getD (now (text .entry)) k 0) < 16) ⌝ }
+    ensures digits_only { λ r. ⌜
+        (r
+        ≡ true → (k : ℕ) → k < length (now (text .entry)) → digitValue (getD (now (text .entry)) k 0) < 16) ⌝ }
     ensures even { λ r. ⌜ (r ≡ true → length (now (text .entry)) % 2 ≡ 0) ⌝ }
 {
     let mut digits = true;

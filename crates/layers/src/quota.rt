@@ -58,17 +58,25 @@ pub impl<E: Engine> Engine for Quota<E> as QuotaEngine {
     ghost lender = { λ q. E·Engine .lender (q .engine) };
 
     fn load(&mut self, w0: u64, w1: u64, w2: u64, w3: u64, w4: u64)
-        ensures five_words_set { λ _. ⌜ limited E·Engine (now (self .exit)) ≡ loaded w0 w1 w2 w3 w4 (limited E·Engine (now (self .entry))) ⌝ }
+        ensures five_words_set { λ _. ⌜
+            limited E·Engine (now (self .exit))
+            ≡ loaded w0 w1 w2 w3 w4 (limited E·Engine (now (self .entry))) ⌝ }
         ensures same_lender { λ _. ⌜ E·Engine .lender (now (self .exit) .engine) ≡ E·Engine .lender (now (self .entry) .engine) ⌝ }
-        ensures loaded_below { λ _. ⌜ metered E·Engine (now (self .exit)) ≡ below (loaded w0 w1 w2 w3 w4) (metered E·Engine (now (self .entry))) ⌝ }
+        ensures loaded_below { λ _. ⌜
+            metered E·Engine (now (self .exit))
+            ≡ below (loaded w0 w1 w2 w3 w4) (metered E·Engine (now (self .entry))) ⌝ }
     {
         self.engine.load(w0, w1, w2, w3, w4);
     }
 
     fn mix(&mut self, place: usize, value: u64) -> Result<(), EngineFault>
-        ensures value_mixed_or_unchanged { λ r. ⌜ (r, limited E·Engine (now (self .exit))) ≡ mix place value (limited E·Engine (now (self .entry))) ⌝ }
+        ensures value_mixed_or_unchanged { λ r. ⌜
+            (r, limited E·Engine (now (self .exit)))
+            ≡ mix place value (limited E·Engine (now (self .entry))) ⌝ }
         ensures same_lender { λ _. ⌜ E·Engine .lender (now (self .exit) .engine) ≡ E·Engine .lender (now (self .entry) .engine) ⌝ }
-        ensures mixed_below { λ r. ⌜ (r, metered E·Engine (now (self .exit))) ≡ passed (mix place value) (metered E·Engine (now (self .entry))) ⌝ }
+        ensures mixed_below { λ r. ⌜
+            (r, metered E·Engine (now (self .exit)))
+            ≡ passed (mix place value) (metered E·Engine (now (self .entry))) ⌝ }
     {
         self.engine.mix(place, value)
     }
@@ -86,9 +94,13 @@ pub impl<E: Engine> Engine for Quota<E> as QuotaEngine {
     }
 
     fn run(&mut self, rounds: usize) -> Result<(), EngineFault>
-        ensures run_made_or_unchanged { λ r. ⌜ (r, limited E·Engine (now (self .exit))) ≡ run rounds (limited E·Engine (now (self .entry))) ⌝ }
+        ensures run_made_or_unchanged { λ r. ⌜
+            (r, limited E·Engine (now (self .exit)))
+            ≡ run rounds (limited E·Engine (now (self .entry))) ⌝ }
         ensures same_lender { λ _. ⌜ E·Engine .lender (now (self .exit) .engine) ≡ E·Engine .lender (now (self .entry) .engine) ⌝ }
-        ensures counted_and_run_below { λ r. ⌜ (r, metered E·Engine (now (self .exit))) ≡ runMetered rounds (metered E·Engine (now (self .entry))) ⌝ }
+        ensures counted_and_run_below { λ r. ⌜
+            (r, metered E·Engine (now (self .exit)))
+            ≡ runMetered rounds (metered E·Engine (now (self .entry))) ⌝ }
     {
         if rounds < 1 || rounds > 16 {
             return Err(EngineFault::RoundsOutOfRange);

@@ -11,7 +11,9 @@ use crate::tables::ROUND_CONSTANTS;
 
 // One round: the constant into w2, then the substitution, then the diffusion.
 fn one_round<S: Substitution>(state: &mut State, constant: u64)
-    ensures three_layers { λ _. ⌜ now (state .exit) ≡ diffuse (substitute (set (now (state .entry)) 2 (bitXor (getD (now (state .entry)) 2 0) constant))) ⌝ }
+    ensures three_layers { λ _. ⌜
+        now (state .exit)
+        ≡ diffuse (substitute (set (now (state .entry)) 2 (bitXor (getD (now (state .entry)) 2 0) constant))) ⌝ }
 {
     state[2] ^= constant;
     *state = diffuse_words(S::substituted(*state));

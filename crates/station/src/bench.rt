@@ -51,7 +51,9 @@ impl Bench {
     }
 
     pub fn limit(&mut self, quotas: Quotas)
-        ensures new_engine { λ _. ⌜ (now (self .exit) .kind ≡ now (self .entry) .kind) × Built (now (self .entry) .kind) quotas (now (self .exit) .engine) ⌝ }
+        ensures new_engine { λ _. ⌜
+            (now (self .exit) .kind
+            ≡ now (self .entry) .kind) × Built (now (self .entry) .kind) quotas (now (self .exit) .engine) ⌝ }
     {
         self.engine = pile(self.kind, quotas);
     }
@@ -76,7 +78,9 @@ fn pile(kind: Kind, quotas: Quotas) -> Pile
 
 // Loads the words, makes one run, and reads the words again.
 pub fn permute<E: Engine>(engine: &mut E, rounds: usize, words: State) -> Result<State, EngineFault>
-    ensures loaded_run_read { λ r. ⌜ (r, meaning E·Engine (now (engine .exit))) ≡ permuteOnce rounds words (meaning E·Engine (now (engine .entry))) ⌝ }
+    ensures loaded_run_read { λ r. ⌜
+        (r, meaning E·Engine (now (engine .exit)))
+        ≡ permuteOnce rounds words (meaning E·Engine (now (engine .entry))) ⌝ }
 {
     let [w0, w1, w2, w3, w4] = words;
     engine.load(w0, w1, w2, w3, w4);

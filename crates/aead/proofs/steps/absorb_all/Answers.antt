@@ -1,15 +1,16 @@
-use mathlib.Core.Path.{refl, sym, ap, _∙_}
+use mathlib.Core.List.{_++_}
+use mathlib.Core.Path.{sym, ap, _∙_}
 use Prim.Native.Nat.{ℕ, _+_}
 use native.Mathlib.Omega.{arith}
 use borrow.Author.Needs.{needs}
 use lib.ListN.{length}
-use Rattle.engine.proofs.Spending.{held}
-use Rattle.engine.specs.Meaning.{Meaning}
 use Rattle.engine.specs.Of.{meaning}
 use Rattle.engine.specs.Runs.{after, paid}
+use Rattle.std.proofs.shelf.Lists.{length-append}
+use Rattle.aead.specs.Blocks.{afterBlocks}
 use Rattle.aead.specs.Cipher.{dataBlocks}
-use Rattle.aead.proofs.Chains.{blocks-few, bound-is}
-use Rattle.aead.proofs.steps.absorb_data.Needs as need
+use Rattle.aead.proofs.Chains.{blocks-few}
+use Rattle.aead.proofs.steps.absorb_all.Needs as need
 
 pub absorb-blocks-requires : need.absorb-blocks-requires
 unfolding dataBlocks
@@ -27,17 +28,15 @@ pub returns : need.returns
 unfolding dataBlocks
 returns g c =
     let m = meaning (g .E·Engine) (c .args .engine .now) in
-    let y = meaning (g .E·Engine) (c .absorb-blocks .last .engine) in
-    let z = meaning (g .E·Engine) (c .mark-domain .last .engine) in
+    let z = meaning (g .E·Engine) (c .absorb-blocks .last .engine) in
+    let bs = c .args .front .now ++ c .args .back .now in
     let count = c .data-blocks-count .ensures .count-is in
-    let marked = c .mark-domain .ensures .mark-mixed in
     record {
       paid-or-refused =
           sym (c .in-Continue-absorb-blocks .was tt) ∙ c .absorb-blocks .ensures .paid-or-refused ∙ ap (λ (n : ℕ). paid n m tt) count;
-      data-bound =
-          bound-is (m .words) (c .args .front .now) (c .args .back .now) (c .data-blocks-count .result) (y .words) (z .words) count
-          (c .in-Continue-absorb-blocks .ensures tt .blocks-absorbed) (ap (λ (x : Meaning). x .words) marked);
-      runs-spent =
-          held m y z (c .data-blocks-count .result) _ (c .absorb-blocks .ensures .runs-spent) marked
-          ∙ ap (λ (n : ℕ). after n (z .words) m) count;
+      data-absorbed =
+          c .in-Continue-absorb-blocks .ensures tt .blocks-absorbed
+          ∙ ap (λ (n : ℕ). afterBlocks n (m .words) bs)
+          (count ∙ ap dataBlocks (sym (length-append (c .args .front .now) (c .args .back .now))));
+      runs-spent = c .absorb-blocks .ensures .runs-spent ∙ ap (λ (n : ℕ). after n (z .words) m) count;
     }
