@@ -6,5 +6,6 @@ mod Inverse
 mod Opens
 mod Outcomes
 mod Parts
+mod Published
 mod Same
 mod Xor

@@ -42,8 +42,10 @@ openedBlocks (suc n) ws c = openedBlocks n ws c ++ uncovered (afterOpening n ws 
 unfoldable pub afterText : List ℕ → List ℕ → List ℕ
 afterText ws text = absorbed (afterBlocks (length text / 16) ws text) (block text (length text / 16))
 
+-- as many bytes as the text has
 unfoldable pub ciphertext : List ℕ → List ℕ → List ℕ
 ciphertext ws text = take (length text) (sealedBlocks (length text / 16 + 1) ws text)
 
+-- the text under a whole ciphertext
 unfoldable pub plaintext : List ℕ → List ℕ → List ℕ
 plaintext ws c = openedBlocks (length c / 16 + 1) ws c

@@ -28,7 +28,8 @@ long ad text = ltb 16777216 ad || ltb 16777216 text
 abbrev pub front : ℕ → List ℕ → List ℕ → List ℕ
 front n new out = new ++ drop n out
 
--- how a call ends that answered n bytes `new` or was refused after it began: n runs' cost paid, zero words, on refusal zero bytes
+-- how a call ends once it has begun: `runs` runs are paid, or the allowance is used up; zero words; the first n bytes are `new`, or zero
+-- after a refusal
 abbrev pub accepted : ℕ → ℕ → List ℕ → List ℕ → Meaning → Outcome
 accepted runs n new out m = (Ok n, front n new out, after runs zeroWords m)
 

@@ -32,6 +32,7 @@ ready key nonce ad = bound (started key nonce) ad
 abbrev pub ended : List ℕ → List ℕ → List ℕ
 ended key ws = permuted 12 (mixed 3 (word (drop 8 key)) (mixed 2 (word key) ws))
 
+-- the tag, read from the last words
 abbrev pub tagAt : List ℕ → List ℕ → List ℕ
 tagAt key ws = bytesOf (bitXor (getD ws 3 0) (word key)) ++ bytesOf (bitXor (getD ws 4 0) (word (drop 8 key)))
 

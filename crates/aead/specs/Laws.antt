@@ -49,7 +49,7 @@ SealingUndoesOpening =
     → n + 16 ≤ length out′ → has (cost (length ad) n) m′ ≡ true
     → sealing key nonce ad (take n (opening key nonce ad s out m .1)) out′ m′ ≡ accepted (cost (length ad) n) (n + 16) s out′ m′
 
--- opening accepts exactly the sealed texts: one within the limits, with room and the runs; and what it accepts is one
+-- every sealed text within the limits is accepted where there are room and runs; what is accepted is a sealed text
 pub record AcceptsExactlySealed : Type 0 where
   pub sealed-accepted : (key nonce ad text out : List ℕ) (m : Meaning) → Bytes text → long (length ad) (length text) ≡ false
       → length text ≤ length out → has (cost (length ad) (length text)) m ≡ true

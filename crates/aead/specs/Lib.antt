@@ -3,3 +3,4 @@ pub mod Bytes
 pub mod Calls
 pub mod Cipher
 pub mod Laws
+pub mod Values

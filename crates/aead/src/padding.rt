@@ -29,7 +29,7 @@ fn sixteen(bytes: &[u8]) -> Block
     block
 }
 
-// The sixteen bytes from a place on, one by one: the block that holds the end of a part.
+// The sixteen bytes from a place on, one by one: a block that is not wholly in the first part.
 fn gathered(front: &[u8], back: &[u8], start: usize) -> Block
     ensures block_is { λ r. ⌜
         (start ≤ length (now (front .entry)) + length (now (back .entry)) → r

@@ -10,6 +10,7 @@ ghost use Rattle.aead.specs.Blocks.{afterBlocks, afterText, ciphertext, sealed
 ghost use Rattle.aead.specs.Calls.{lifted, sealing as sealingOf};
 ghost use Rattle.aead.specs.Cipher.{cost, sealed};
 ghost use Rattle.aead.specs.Laws.{OpeningUndoesSealing};
+ghost use Rattle.aead.specs.Values.{PublishedAnswer};
 use crate::ending::settle;
 use crate::ending::within_limits;
 use crate::padding::block;
@@ -109,7 +110,7 @@ fn lift(result: Result<(), EngineFault>) -> Result<(), SuiteFault>
 }
 
 // Seals a text under a key and a nonce, with associated data in two parts that count as joined. The output begins with the
-// ciphertext and the tag, whose length is the answer.
+// ciphertext and the tag, whose length is the answer. Where the engine refuses a run, that part of the output is zero.
 pub fn seal<E: Engine>(
     engine: &mut E,
     key: &Block,
@@ -124,6 +125,7 @@ pub fn seal<E: Engine>(
         ≡ sealingOf (now (key .entry)) (now (nonce .entry)) (now (front .entry) ++ now (back .entry)) (now (text .entry)) (now (out
         .entry)) (meaning E·Engine (now (engine .entry))) ⌝ }
     ensures opening_undoes_sealing { λ _. ⌜ OpeningUndoesSealing ⌝ }
+    ensures published_answer { λ _. ⌜ PublishedAnswer ⌝ }
 {
     seal_or_refuse(engine, key, nonce, front, back, text, out)
 }

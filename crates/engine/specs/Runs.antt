@@ -23,7 +23,7 @@ after n ws m = record { words = ws; allowance = lowered n (m .allowance) }
 abbrev pub refusal : Meaning → EngineFault
 refusal m = NoRunsLeft
 
--- the runs that a call has completed when it is refused one
+-- the runs that a call has completed when it is refused one; 0 for an unlimited engine, which refuses none
 abbrev pub completed : Meaning → ℕ
 completed m = granted (m .allowance)
 
@@ -53,7 +53,7 @@ pub record RunsAddUp : Type 0 where
   pub run-refused : (r : ℕ) (m : Meaning) → roundsAllowed r ≡ true → has 1 m ≡ false → run r m ≡ (Err (refusal m), m)
   -- an engine that lacks a run stays as it is, however many are asked for
   pub lacking-stays : (n : ℕ) (m : Meaning) → has 1 m ≡ false → after n (m .words) m ≡ m
-  -- where k runs are lacking, more are too, and asking for more leaves no less
+  -- where k runs are lacking, more are too, and asking for more leaves the same
   pub lacking-more : (k n : ℕ) (m : Meaning) → k ≤ n → has k m ≡ false → has n m ≡ false
   pub lacking-after : (k n : ℕ) (ws : List ℕ) (m : Meaning) → k ≤ n → has k m ≡ false → after k ws m ≡ after n ws m
   -- which refusal comes does not depend on the runs made before

@@ -1,4 +1,4 @@
-// An engine that is lent is an engine: what owns its engine, as a digest session does, can be given a loan.
+// An engine that is lent is an engine: what owns its engine can be given a loan.
 ghost use denote.Ref.{name, now};
 use crate::allowance::Allowance;
 use crate::fault::EngineFault;

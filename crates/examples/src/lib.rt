@@ -1,4 +1,4 @@
-// Examples of every layer, as tests: values that the standard prints or that another implementation gave, and the ends of each range.
+// Examples of every layer, as tests: values that the standard prints or that another implementation gave, and the ends of ranges.
 
 #[cfg(test)]
 mod engine_calls;

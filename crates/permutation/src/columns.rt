@@ -75,7 +75,7 @@ fn bit_at(word: u64, j: u32) -> u64
     word >> j & 1
 }
 
-// The word with a bit set at place `j`.
+// The word with a bit ORed in at place `j`.
 fn with_bit(word: u64, j: u32, bit: u64) -> u64
     requires { ⌜ j < 64 ⌝ ∗ ⌜ bit < 2 ⌝ }
     ensures bit_set { λ r. ⌜ r ≡ bitOr word (bit * 2 ^ j) ⌝ }
