@@ -1,10 +1,10 @@
 -- One more block: the words, and the output that is written block by block.
-use Rattle.std.proofs.Common.{◌≡◌, ℕ, zero, suc, ◌+◌, ◌-◌, ◌*◌, ◌≤◌, List, [], ◌∷◌, ◌++◌, length, take, drop, sym, refl, ap, ◌∙◌, append_assoc, add-one, arith}
+use Rattle.std.proofs.Common.{◌≡◌, ℕ, zero, suc, ◌+◌, ◌-◌, ◌*◌, List, ◌++◌, length, drop, sym, refl, ap, ◌∙◌, append_assoc, add-one, arith}
 use borrow.Rule.Slice.PartMut.{put_mid}
-use Rattle.std.proofs.lemmas.List.{length-append, take_at, drop_at, drop-drop, append-nil}
+use Rattle.std.proofs.lemmas.List.{length-append, take_at, drop_at, drop-drop}
 use Rattle.engine.specs.Meaning.{permuted}
 use Rattle.suite.specs.Words.{bytes_of}
-use Rattle.aead.specs.Bytes.{block, part}
+use Rattle.aead.specs.Bytes.{block}
 use Rattle.aead.specs.Blocks.{absorbed, rate, after_blocks, sealed_blocks}
 
 pub length_rate : (ws : List ℕ) → length (rate ws) ≡ 16

@@ -1,6 +1,6 @@
 -- The laws of the two calls: each undoes the other, and opening accepts exactly the sealed texts.
 -- Assumes nothing.
-use Rattle.std.proofs.Common.{◌≡◌, ℕ, ◌+◌, ◌-◌, ◌≤◌, Bool, true, false, cond, ltb, List, ◌++◌, length, take, drop, Ok, Err, Result, sym, refl, ap, ◌∙◌, subst, ap₂, arith}
+use Rattle.std.proofs.Common.{◌≡◌, ℕ, ◌+◌, ◌-◌, ◌≤◌, Bool, true, false, cond, ltb, List, length, take, drop, Ok, Err, Result, sym, refl, ap, ◌∙◌, ap₂, arith}
 use Rattle.engine.specs.Meaning.{Meaning}
 use Rattle.engine.specs.Runs.{has}
 use Rattle.std.proofs.ByRecursion.{All-take}
@@ -10,8 +10,8 @@ use Rattle.suite.specs.declared.fault.SuiteFault.{SuiteFault}
 use Rattle.suite.specs.declared.fault.SuiteFault.TheVariants.{InputTooLong, OutputTooShort, TagMissing, TagMismatch}
 use Rattle.suite.specs.Words.{bytes_of}
 use Rattle.aead.specs.Bytes.{same}
-use Rattle.aead.specs.Calls.{Outcome, accepted, cleared, long, opening, out_of_runs, sealing}
-use Rattle.aead.specs.Cipher.{cost, ready, sealed, tag_at, tag_of, unsealed}
+use Rattle.aead.specs.Calls.{Outcome, accepted, long, opening, out_of_runs, sealing}
+use Rattle.aead.specs.Cipher.{cost, ready, sealed, tag_of, unsealed}
 use Rattle.aead.specs.Laws.{AcceptsExactlySealed, Bytes, OpeningUndoesSealing, SealingUndoesOpening}
 use Rattle.aead.proofs.Inverse.{bytes_plaintext, length_ciphertext, length_plaintext, opened_seals, sealed_opens}
 use Rattle.aead.proofs.Same.{same_is, same_self}

@@ -1,13 +1,11 @@
 -- The steps of a call as chains of mixes and runs.
-use Rattle.std.proofs.Common.{◌≡◌, ℕ, ◌+◌, ◌-◌, ◌*◌, ◌/◌, ◌≤◌, List, [], ◌∷◌, ◌++◌, length, get_or, take, drop, sym, refl, ap, ◌∙◌, add-one, arith}
+use Rattle.std.proofs.Common.{◌≡◌, ℕ, ◌+◌, ◌-◌, ◌*◌, ◌/◌, ◌≤◌, List, ◌++◌, length, take, drop, sym, ap, ◌∙◌, add-one, arith}
 use native.Mathlib.Nat.{sub-zero}
-use lib.Bits.{bit_xor}
 use lib.Seq.{take-append-add}
 use borrow.Rule.Slice.PartMut.{put_mid, post_of}
-use Rattle.std.proofs.lemmas.List.{take_at, drop_at, drop_all, append-nil, length-append, length-drop}
+use Rattle.std.proofs.lemmas.List.{take_at, drop_at, drop_all, append-nil, length-drop}
 use Rattle.std.proofs.lemmas.Bool.Decides.{nat_tests}
-use Rattle.engine.specs.Meaning.{mixed, permuted}
-use Rattle.aead.specs.Bytes.{word, bytes_of, block}
+use Rattle.aead.specs.Bytes.{block}
 use Rattle.aead.specs.Blocks.{absorbed, rate, after_blocks, sealed_blocks, after_text, ciphertext}
 use Rattle.aead.specs.Cipher.{started, data_blocks, bound, ready, ended, tag_at, tag_of, sealed}
 use Rattle.aead.proofs.Blocks.{length_covered}

@@ -1,18 +1,18 @@
 -- Sealing and opening undo one another, block by block and then as a whole.
-use Rattle.std.proofs.Common.{◌≡◌, ℕ, zero, suc, ◌+◌, ◌-◌, ◌*◌, ◌/◌, ◌<◌, ◌≤◌, ◌⊎◌, List, [], ◌∷◌, ◌++◌, length, take, drop, replicate, sym, refl, ap, ◌∙◌, inl, inr, add-one, arith}
+use Rattle.std.proofs.Common.{◌≡◌, ℕ, zero, suc, ◌+◌, ◌-◌, ◌*◌, ◌/◌, ◌<◌, ◌≤◌, List, [], ◌∷◌, ◌++◌, length, take, drop, replicate, sym, refl, ap, ◌∙◌, inl, inr, arith}
 use Rattle.std.proofs.lemmas.Bool.{cases_lt}
-use Rattle.std.proofs.lemmas.List.{take-append-le, drop-append-le, length-append, length-take, length-drop, take_all, take_at, drop_at, length-take-le, take-take, drop-take}
+use Rattle.std.proofs.lemmas.List.{take-append-le, drop-append-le, length-append, length-take, length-drop, take_all, take_at, drop_at, length-take-le}
 use Rattle.std.proofs.ByRecursion.{All-append, All-take, All-drop}
 use Rattle.engine.specs.Meaning.{mixed, permuted}
 use Rattle.engine.proofs.WordCount.{length_mixed, length_permuted}
 use Rattle.aead.specs.Bytes.{word, block, part, padded, xored}
 use Rattle.aead.specs.Blocks.{absorbed, rate, after_blocks, sealed_blocks, uncovered, after_opening, opened_blocks, ciphertext, plaintext}
-use Rattle.aead.specs.Cipher.{started, bound, ready, data_blocks, sealed, unsealed, tag_of}
+use Rattle.aead.specs.Cipher.{started, ready, data_blocks, sealed, unsealed, tag_of}
 use Rattle.aead.specs.Laws.{Bytes, OpenedSeals, SealedOpens}
 use Rattle.aead.proofs.Bytes.{length_block}
 use Rattle.aead.proofs.Blocks.{length_rate, length_covered}
 use Rattle.aead.proofs.Xor.{rate_absorbed, bytes_rate, xored_twice, take_xored, length_xored, bytes_xored}
-use Rattle.aead.proofs.Parts.{drop_of_take, take_swap, part_of_block, whole_part, opened_more, same_parts, part_covered, length_absorbed, length_after}
+use Rattle.aead.proofs.Parts.{drop_of_take, take_swap, part_of_block, whole_part, opened_more, same_parts, part_covered, length_after}
 
 bytes_block : (t : List ℕ) (i : ℕ) → Bytes t → Bytes (block t i)
 unfolding block padded

@@ -1,12 +1,12 @@
 -- One more block opened, and the whole text: the words, and the output that is written block by block.
-use Rattle.std.proofs.Common.{◌≡◌, ℕ, zero, suc, ◌+◌, ◌-◌, ◌*◌, ◌/◌, ◌≤◌, List, [], ◌∷◌, ◌++◌, length, take, drop, replicate, sym, refl, ap, ◌∙◌, add-one, arith}
+use Rattle.std.proofs.Common.{◌≡◌, ℕ, ◌+◌, ◌-◌, ◌*◌, ◌/◌, ◌≤◌, List, [], ◌∷◌, ◌++◌, length, take, drop, replicate, sym, ap, ◌∙◌, add-one, arith}
 use borrow.Rule.Slice.PartMut.{put_mid}
 use Rattle.std.proofs.lemmas.List.{append-nil, append_assoc, take_all, take_at, drop_at, drop_all, length-take, length-drop}
 use Rattle.engine.specs.Meaning.{permuted}
 use Rattle.aead.specs.Bytes.{block, part, padded, xored}
 use Rattle.aead.specs.Blocks.{absorbed, rate, uncovered, after_opening, opened_blocks, after_text, plaintext}
 use Rattle.aead.specs.Cipher.{ready, ended, tag_at, tag_of, unsealed}
-use Rattle.aead.proofs.Blocks.{written, length_rate}
+use Rattle.aead.proofs.Blocks.{written}
 use Rattle.aead.proofs.Parts.{whole_part}
 use Rattle.aead.proofs.Inverse.{length_uncovered, length_opened_whole, length_plaintext, opened_after}
 

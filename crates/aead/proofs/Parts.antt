@@ -1,9 +1,9 @@
 -- The parts of a text, of a ciphertext and of an opened text, block by block.
-use Rattle.std.proofs.Common.{◌≡◌, ℕ, zero, suc, ◌+◌, ◌-◌, ◌*◌, ◌/◌, ◌%◌, ◌<◌, ◌≤◌, ◌⊎◌, List, [], ◌∷◌, ◌++◌, length, get_or, take, drop, replicate, sym, refl, ap, ◌∙◌, inl, inr, arith, take-add}
-use Rattle.std.proofs.lemmas.List.{length-append, length-take, length-drop, take_at, drop_at, take-append-le, drop-append-le, take_all, take-take, drop-take, drop_all, ext_get_or, get_or-take, get_or-drop}
+use Rattle.std.proofs.Common.{◌≡◌, ℕ, zero, suc, ◌+◌, ◌-◌, ◌*◌, ◌/◌, ◌%◌, ◌<◌, ◌≤◌, List, [], ◌∷◌, ◌++◌, length, get_or, take, drop, replicate, sym, refl, ap, ◌∙◌, inl, inr, arith, take-add}
+use Rattle.std.proofs.lemmas.List.{length-drop, take_at, drop_at, take-append-le, drop-append-le, take_all, drop-take, ext_get_or, get_or-take, get_or-drop}
 use Rattle.std.proofs.lemmas.Bool.{cases_lt}
 use Rattle.engine.proofs.WordCount.{length_mixed, length_permuted}
-use Rattle.engine.specs.Meaning.{mixed, permuted}
+use Rattle.engine.specs.Meaning.{mixed}
 use Rattle.aead.specs.Bytes.{word, block, part, padded}
 use Rattle.aead.specs.Blocks.{absorbed, rate, after_blocks, sealed_blocks}
 use Rattle.aead.proofs.Bytes.{length_block}

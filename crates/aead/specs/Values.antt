@@ -1,6 +1,6 @@
 -- A published answer of Ascon-AEAD128.
 -- Assumes nothing.
-use Rattle.std.specs.Prelude.{◌≡◌, ℕ, List, [], ◌∷◌}
+use Rattle.std.specs.Prelude.{◌≡◌, [], ◌∷◌}
 use Rattle.std.specs.List.{range_with_len}
 use Rattle.aead.specs.Cipher.{sealed}
 

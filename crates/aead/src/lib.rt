@@ -2,6 +2,7 @@
 //
 // Each call is lent its engine and decides, for accepted and refused calls alike, its answer, its output and the engine afterwards, as
 // specs/Calls.antt says. Nothing here allocates.
+#![tactic(auto)]
 
 mod comparing;
 mod ending;

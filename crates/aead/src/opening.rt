@@ -4,7 +4,7 @@ ghost use Rattle.engine.specs.Of.{meaning};
 ghost use Rattle.engine.specs.Runs.{after, paid};
 ghost use Rattle.aead.specs.Blocks.{after_opening, after_text, opened_blocks, plaintext};
 ghost use Rattle.aead.specs.Bytes.{xored};
-ghost use Rattle.aead.specs.Calls.{opening as openingOf, verified};
+ghost use Rattle.aead.specs.Calls.{opening as opening_of, verified};
 ghost use Rattle.aead.specs.Cipher.{cost, tag_of, unsealed};
 ghost use Rattle.aead.specs.Laws.{AcceptsExactlySealed, SealingUndoesOpening};
 
@@ -31,13 +31,13 @@ fn uncover(mask: &Block, sealed: &[u8], out: &mut [u8])
 fn open_blocks<E: Engine>(engine: &mut E, sealed: &[u8], out: &mut [u8]) -> Result<(), EngineFault>
     requires len { length out.old ≡ length sealed.now }
     ensures paid_or_refused { result ≡ paid (length sealed.now / 16) (meaning E.Engine engine.old) tt }
-    ensures blocks_absorbed { OnOk result (words engine.new
-        ≡ after_opening (length sealed.now / 16) (words engine.old) sealed.now) }
+    ensures blocks_absorbed { OnOk result (E.words engine.new
+        ≡ after_opening (length sealed.now / 16) (E.words engine.old) sealed.now) }
     ensures blocks_written { OnOk result (out.new
-        ≡ opened_blocks (length sealed.now / 16) (words engine.old) sealed.now ++ drop (16 * (length
+        ≡ opened_blocks (length sealed.now / 16) (E.words engine.old) sealed.now ++ drop (16 * (length
         sealed.now / 16)) out.old) }
     ensures runs_spent { meaning E.Engine engine.new
-        ≡ after (length sealed.now / 16) (words engine.new) (meaning E.Engine engine.old) }
+        ≡ after (length sealed.now / 16) (E.words engine.new) (meaning E.Engine engine.old) }
 {
     for i in 0..sealed.len() / 16 {
         let mask = squeeze(engine)?;
@@ -53,12 +53,12 @@ fn open_blocks<E: Engine>(engine: &mut E, sealed: &[u8], out: &mut [u8]) -> Resu
 fn open_text<E: Engine>(engine: &mut E, sealed: &[u8], out: &mut [u8]) -> Result<(), EngineFault>
     requires len { length out.old ≡ length sealed.now }
     ensures paid_or_refused { result ≡ paid (length sealed.now / 16) (meaning E.Engine engine.old) tt }
-    ensures text_absorbed { OnOk result (words engine.new
-        ≡ after_text (words engine.old) (plaintext (words engine.old) sealed.now)) }
+    ensures text_absorbed { OnOk result (E.words engine.new
+        ≡ after_text (E.words engine.old) (plaintext (E.words engine.old) sealed.now)) }
     ensures plaintext_written { OnOk result (out.new
-        ≡ plaintext (words engine.old) sealed.now) }
+        ≡ plaintext (E.words engine.old) sealed.now) }
     ensures runs_spent { meaning E.Engine engine.new
-        ≡ after (length sealed.now / 16) (words engine.new) (meaning E.Engine engine.old) }
+        ≡ after (length sealed.now / 16) (E.words engine.new) (meaning E.Engine engine.old) }
 {
     open_blocks(engine, sealed, out)?;
     let whole = sealed.len() / 16;
@@ -87,7 +87,7 @@ fn open_steps<E: Engine>(
     ensures text_written { OnOk result (out.new
         ≡ unsealed key.now nonce.now (front.now ++ back.now) sealed.now) }
     ensures runs_spent { meaning E.Engine engine.new
-        ≡ after (cost (length front.now + length back.now) (length sealed.now)) (words engine.exit.now) (meaning E.Engine engine.old) }
+        ≡ after (cost (length front.now + length back.now) (length sealed.now)) (E.words engine.new) (meaning E.Engine engine.old) }
 {
     prepare(engine, key, nonce, front, back)?;
     open_text(engine, sealed, out)?;
@@ -128,7 +128,7 @@ pub fn open<E: Engine>(
     out: &mut [u8],
 ) -> Result<usize, SuiteFault>
     ensures opened_or_refused { (result, out.new, meaning E.Engine engine.new)
-        ≡ openingOf key.now nonce.now (front.now ++ back.now) sealed.now out.old (meaning E.Engine engine.old) }
+        ≡ opening_of key.now nonce.now (front.now ++ back.now) sealed.now out.old (meaning E.Engine engine.old) }
     ensures sealing_undoes_opening { SealingUndoesOpening }
     ensures accepts_exactly_sealed_texts { AcceptsExactlySealed }
 {
@@ -145,7 +145,7 @@ fn open_or_refuse<E: Engine>(
     out: &mut [u8],
 ) -> Result<usize, SuiteFault>
     ensures opened_or_refused { (result, out.new, meaning E.Engine engine.new)
-        ≡ openingOf key.now nonce.now (front.now ++ back.now) sealed.now out.old (meaning E.Engine engine.old) }
+        ≡ opening_of key.now nonce.now (front.now ++ back.now) sealed.now out.old (meaning E.Engine engine.old) }
 {
     if sealed.len() < 16 {
         return Err(SuiteFault::TagMissing);

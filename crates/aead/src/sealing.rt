@@ -3,7 +3,7 @@ ghost use Rattle.std.specs.Prelude.{◌≡◌, ◌+◌, ◌*◌, ◌/◌, ◌++�
 ghost use Rattle.engine.specs.Of.{meaning};
 ghost use Rattle.engine.specs.Runs.{after, paid};
 ghost use Rattle.aead.specs.Blocks.{after_blocks, after_text, ciphertext, sealed_blocks};
-ghost use Rattle.aead.specs.Calls.{lifted, sealing as sealingOf};
+ghost use Rattle.aead.specs.Calls.{lifted, sealing as sealing_of};
 ghost use Rattle.aead.specs.Cipher.{cost, sealed};
 ghost use Rattle.aead.specs.Laws.{OpeningUndoesSealing};
 ghost use Rattle.aead.specs.Values.{PublishedAnswer};
@@ -19,13 +19,13 @@ use suite::SuiteFault;
 fn seal_blocks<E: Engine>(engine: &mut E, text: &[u8], out: &mut [u8]) -> Result<(), EngineFault>
     requires len { length out.old ≡ length text.now }
     ensures paid_or_refused { result ≡ paid (length text.now / 16) (meaning E.Engine engine.old) tt }
-    ensures blocks_absorbed { OnOk result (words engine.new
-        ≡ after_blocks (length text.now / 16) (words engine.old) text.now) }
+    ensures blocks_absorbed { OnOk result (E.words engine.new
+        ≡ after_blocks (length text.now / 16) (E.words engine.old) text.now) }
     ensures blocks_written { OnOk result (out.new
-        ≡ sealed_blocks (length text.now / 16) (words engine.old) text.now ++ drop (16 * (length
+        ≡ sealed_blocks (length text.now / 16) (E.words engine.old) text.now ++ drop (16 * (length
         text.now / 16)) out.old) }
     ensures runs_spent { meaning E.Engine engine.new
-        ≡ after (length text.now / 16) (words engine.new) (meaning E.Engine engine.old) }
+        ≡ after (length text.now / 16) (E.words engine.new) (meaning E.Engine engine.old) }
 {
     for i in 0..text.len() / 16 {
         absorb(engine, &block(text, &[], i))?;
@@ -39,12 +39,12 @@ fn seal_blocks<E: Engine>(engine: &mut E, text: &[u8], out: &mut [u8]) -> Result
 fn seal_text<E: Engine>(engine: &mut E, text: &[u8], out: &mut [u8]) -> Result<(), EngineFault>
     requires len { length out.old ≡ length text.now }
     ensures paid_or_refused { result ≡ paid (length text.now / 16) (meaning E.Engine engine.old) tt }
-    ensures text_absorbed { OnOk result (words engine.new
-        ≡ after_text (words engine.old) text.now) }
+    ensures text_absorbed { OnOk result (E.words engine.new
+        ≡ after_text (E.words engine.old) text.now) }
     ensures ciphertext_written { OnOk result (out.new
-        ≡ ciphertext (words engine.old) text.now) }
+        ≡ ciphertext (E.words engine.old) text.now) }
     ensures runs_spent { meaning E.Engine engine.new
-        ≡ after (length text.now / 16) (words engine.new) (meaning E.Engine engine.old) }
+        ≡ after (length text.now / 16) (E.words engine.new) (meaning E.Engine engine.old) }
 {
     seal_blocks(engine, text, out)?;
     let whole = text.len() / 16;
@@ -70,7 +70,7 @@ fn seal_steps<E: Engine>(
     ensures sealed_written { OnOk result (out.new
         ≡ sealed key.now nonce.now (front.now ++ back.now) text.now) }
     ensures runs_spent { meaning E.Engine engine.new
-        ≡ after (cost (length front.now + length back.now) (length text.now)) (words engine.exit.now) (meaning E.Engine engine.old) }
+        ≡ after (cost (length front.now + length back.now) (length text.now)) (E.words engine.new) (meaning E.Engine engine.old) }
 {
     prepare(engine, key, nonce, front, back)?;
     seal_text(engine, text, &mut out[0..text.len()])?;
@@ -99,7 +99,7 @@ pub fn seal<E: Engine>(
     out: &mut [u8],
 ) -> Result<usize, SuiteFault>
     ensures sealed_or_refused { (result, out.new, meaning E.Engine engine.new)
-        ≡ sealingOf key.now nonce.now (front.now ++ back.now) text.now out.entry.now (meaning E.Engine engine.old) }
+        ≡ sealing_of key.now nonce.now (front.now ++ back.now) text.now out.old (meaning E.Engine engine.old) }
     ensures opening_undoes_sealing { OpeningUndoesSealing }
     ensures published_answer { PublishedAnswer }
 {
@@ -116,7 +116,7 @@ fn seal_or_refuse<E: Engine>(
     out: &mut [u8],
 ) -> Result<usize, SuiteFault>
     ensures sealed_or_refused { (result, out.new, meaning E.Engine engine.new)
-        ≡ sealingOf key.now nonce.now (front.now ++ back.now) text.now out.entry.now (meaning E.Engine engine.old) }
+        ≡ sealing_of key.now nonce.now (front.now ++ back.now) text.now out.old (meaning E.Engine engine.old) }
 {
     within_limits(front.len(), back.len(), text.len())?;
     let size = text.len() + 16;

@@ -21,7 +21,7 @@ const DOMAIN: u64 = 0x8000_0000_0000_0000;
 pub(crate) fn absorb<E: Engine>(engine: &mut E, block: &Block) -> Result<(), EngineFault>
     ensures never_refused { result ≡ Ok tt }
     ensures block_mixed { meaning E.Engine engine.new
-        ≡ holding (absorbed (words engine.old) block.now) (meaning E.Engine engine.old) }
+        ≡ holding (absorbed (E.words engine.old) block.now) (meaning E.Engine engine.old) }
 {
     engine.mix(0, low_word(block))?;
     engine.mix(1, high_word(block))?;
@@ -32,7 +32,7 @@ pub(crate) fn absorb<E: Engine>(engine: &mut E, block: &Block) -> Result<(), Eng
 pub(crate) fn absorb_rest<E: Engine>(engine: &mut E, text: &[u8]) -> Result<(), EngineFault>
     ensures never_refused { result ≡ Ok tt }
     ensures rest_mixed { meaning E.Engine engine.new
-        ≡ holding (absorbed (words engine.old) (block_of (text.now ++ []) (length text.now / 16)))
+        ≡ holding (absorbed (E.words engine.old) (block_of (text.now ++ []) (length text.now / 16)))
         (meaning E.Engine engine.old) }
 {
     absorb(engine, &block(text, &[], text.len() / 16))?;
@@ -41,7 +41,7 @@ pub(crate) fn absorb_rest<E: Engine>(engine: &mut E, text: &[u8]) -> Result<(), 
 
 // The bytes of w0 and w1.
 pub(crate) fn squeeze<E: Engine>(engine: &E) -> Result<Block, EngineFault>
-    ensures bytes_read { result ≡ Ok (rate (words engine.now)) }
+    ensures bytes_read { result ≡ Ok (rate (E.words engine.now)) }
 {
     Ok(pair(engine.read(0)?, engine.read(1)?))
 }
@@ -49,9 +49,9 @@ pub(crate) fn squeeze<E: Engine>(engine: &E) -> Result<Block, EngineFault>
 // Initialization: the start value, key and nonce, run 12, the key again.
 fn initialize<E: Engine>(engine: &mut E, key: &Block, nonce: &Block) -> Result<(), EngineFault>
     ensures paid_or_refused { result ≡ paid 1 (meaning E.Engine engine.old) tt }
-    ensures words_started { OnOk result (words engine.new ≡ started key.now nonce.now) }
+    ensures words_started { OnOk result (E.words engine.new ≡ started key.now nonce.now) }
     ensures runs_spent { meaning E.Engine engine.new
-        ≡ after 1 (words engine.new) (meaning E.Engine engine.old) }
+        ≡ after 1 (E.words engine.new) (meaning E.Engine engine.old) }
 {
     let k0 = low_word(key);
     let k1 = high_word(key);
@@ -78,10 +78,10 @@ fn absorb_blocks<E: Engine>(
 ) -> Result<(), EngineFault>
     requires within { 16 * count ≤ length front.now + length back.now + 16 }
     ensures paid_or_refused { result ≡ paid count (meaning E.Engine engine.old) tt }
-    ensures blocks_absorbed { OnOk result (words engine.new
-        ≡ after_blocks count (words engine.old) (front.now ++ back.now)) }
+    ensures blocks_absorbed { OnOk result (E.words engine.new
+        ≡ after_blocks count (E.words engine.old) (front.now ++ back.now)) }
     ensures runs_spent { meaning E.Engine engine.new
-        ≡ after count (words engine.new) (meaning E.Engine engine.old) }
+        ≡ after count (E.words engine.new) (meaning E.Engine engine.old) }
 {
     for i in 0..count {
         absorb(engine, &block(front, back, i))?;
@@ -94,7 +94,7 @@ fn absorb_blocks<E: Engine>(
 fn mark_domain<E: Engine>(engine: &mut E) -> Result<(), EngineFault>
     ensures never_refused { result ≡ Ok tt }
     ensures mark_mixed { meaning E.Engine engine.new
-        ≡ holding (mixed 4 0x8000000000000000 (words engine.old)) (meaning E.Engine engine.old) }
+        ≡ holding (mixed 4 0x8000000000000000 (E.words engine.old)) (meaning E.Engine engine.old) }
 {
     engine.mix(4, DOMAIN)?;
     Ok(())
@@ -104,10 +104,10 @@ fn mark_domain<E: Engine>(engine: &mut E) -> Result<(), EngineFault>
 fn absorb_all<E: Engine>(engine: &mut E, front: &[u8], back: &[u8]) -> Result<(), EngineFault>
     ensures paid_or_refused { result
         ≡ paid (data_blocks (length front.now + length back.now)) (meaning E.Engine engine.old) tt }
-    ensures data_absorbed { OnOk result (words engine.new
-        ≡ after_blocks (data_blocks (length (front.now ++ back.now))) (words engine.old) (front.entry.now ++ back.now)) }
+    ensures data_absorbed { OnOk result (E.words engine.new
+        ≡ after_blocks (data_blocks (length (front.now ++ back.now))) (E.words engine.old) (front.now ++ back.now)) }
     ensures runs_spent { meaning E.Engine engine.new
-        ≡ after (data_blocks (length front.now + length back.now)) (words engine.new) (meaning
+        ≡ after (data_blocks (length front.now + length back.now)) (E.words engine.new) (meaning
         E.Engine engine.old) }
 {
     let count = data_blocks(front.len() + back.len());
@@ -119,10 +119,10 @@ fn absorb_all<E: Engine>(engine: &mut E, front: &[u8], back: &[u8]) -> Result<()
 fn absorb_data<E: Engine>(engine: &mut E, front: &[u8], back: &[u8]) -> Result<(), EngineFault>
     ensures paid_or_refused { result
         ≡ paid (data_blocks (length front.now + length back.now)) (meaning E.Engine engine.old) tt }
-    ensures data_bound { OnOk result (words engine.new
-        ≡ bound (words engine.old) (front.now ++ back.now)) }
+    ensures data_bound { OnOk result (E.words engine.new
+        ≡ bound (E.words engine.old) (front.now ++ back.now)) }
     ensures runs_spent { meaning E.Engine engine.new
-        ≡ after (data_blocks (length front.now + length back.now)) (words engine.new) (meaning
+        ≡ after (data_blocks (length front.now + length back.now)) (E.words engine.new) (meaning
         E.Engine engine.old) }
 {
     absorb_all(engine, front, back)?;
@@ -141,10 +141,10 @@ pub(crate) fn prepare<E: Engine>(
     ensures paid_or_refused { result
         ≡ paid (1 + data_blocks (length front.now + length back.now)) (meaning E.Engine engine.old)
         tt }
-    ensures words_ready { OnOk result (words engine.new
+    ensures words_ready { OnOk result (E.words engine.new
         ≡ ready key.now nonce.now (front.now ++ back.now)) }
     ensures runs_spent { meaning E.Engine engine.new
-        ≡ after (1 + data_blocks (length front.now + length back.now)) (words engine.new) (meaning
+        ≡ after (1 + data_blocks (length front.now + length back.now)) (E.words engine.new) (meaning
         E.Engine engine.old) }
 {
     initialize(engine, key, nonce)?;
@@ -155,9 +155,9 @@ pub(crate) fn prepare<E: Engine>(
 // Finalization: the key, run 12, and the tag.
 pub(crate) fn finalize<E: Engine>(engine: &mut E, key: &Block) -> Result<Block, EngineFault>
     ensures paid_or_refused { result
-        ≡ paid 1 (meaning E.Engine engine.old) (tag_at key.now (ended key.now (words engine.entry.now))) }
+        ≡ paid 1 (meaning E.Engine engine.old) (tag_at key.now (ended key.now (E.words engine.old))) }
     ensures runs_spent { meaning E.Engine engine.new
-        ≡ after 1 (words engine.new) (meaning E.Engine engine.old) }
+        ≡ after 1 (E.words engine.new) (meaning E.Engine engine.old) }
 {
     let k0 = low_word(key);
     let k1 = high_word(key);

@@ -17,11 +17,11 @@ pub(crate) fn customize<E: Engine>(
 ) -> Result<(), EngineFault>
     ensures paid_or_refused { result
         ≡ paid (3 + whole_blocks custom.entry.bytes.now) (meaning E.Engine engine.old) tt }
-    ensures words_customized { OnOk result (words engine.new
+    ensures words_customized { OnOk result (E.words engine.new
         ≡ customized (initialized value) custom.entry.bytes.now) }
     ensures runs_spent { meaning E.Engine engine.new
-        ≡ after (3 + whole_blocks custom.entry.bytes.now) (words engine.new) (meaning E.Engine engine.old) }
-    ensures same_lender { lender engine.new ≡ lender engine.old }
+        ≡ after (3 + whole_blocks custom.entry.bytes.now) (E.words engine.new) (meaning E.Engine engine.old) }
+    ensures same_lender { E.lender engine.new ≡ E.lender engine.old }
 {
     let bytes = custom.bytes();
     let mut block = Block::empty();

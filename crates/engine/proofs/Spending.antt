@@ -4,7 +4,6 @@ use Rattle.std.proofs.Common.{◌≡◌, ℕ, ◌+◌, ◌≤◌, Bool, true, fa
 use Rattle.std.proofs.lemmas.Bool.{and_from, cases_Bool}
 use Rattle.engine.specs.Meaning.{Answered, Meaning, holding, permuted, rounds_allowed, run}
 use Rattle.engine.specs.Runs.{after, has, paid, refusal}
-use Rattle.engine.specs.declared.allowance.Allowance.{Allowance}
 use Rattle.engine.specs.declared.fault.EngineFault.{EngineFault}
 use Rattle.engine.proofs.Laws.{runs_add_up}
 

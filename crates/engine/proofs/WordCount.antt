@@ -1,6 +1,6 @@
 -- Mixing and running keep the number of words.
 -- Assumes nothing.
-use Rattle.std.proofs.Common.{◌≡◌, ℕ, List, length, get_or, refl, ◌∙◌, length-set}
+use Rattle.std.proofs.Common.{◌≡◌, ℕ, List, length, get_or, length-set}
 use lib.Bits.{bit_xor}
 pub use Rattle.permutation.proofs.WordCount.{length_permuted}
 use Rattle.engine.specs.Meaning.{mixed}

@@ -4,7 +4,7 @@ use Rattle.std.specs.Prelude.{ℕ}
 use Rattle.engine.specs.declared.fault.EngineFault.{EngineFault}
 use Rattle.engine.specs.declared.fault.EngineFault.TheVariants.{NoSuchWord, RoundsOutOfRange, NoRunsLeft}
 use Rattle.engine.specs.declared.fault.Layer.{Layer}
-use Rattle.engine.specs.declared.fault.Layer.TheVariants.{Engine, Suite, Link}
+use Rattle.engine.specs.declared.fault.Layer.TheVariants.{Engine}
 
 pub record Facts : Type 0 where
   pub number : ℕ

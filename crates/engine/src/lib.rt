@@ -2,6 +2,7 @@
 //
 // An engine is anything that holds the five words of an Ascon state and runs the permutation on them: a computation in software, a
 // hardware block, or a layer over another engine. What it means and owes is said by `Engine`, in the terms of specs/Meaning.antt.
+#![tactic(auto)]
 
 pub mod allowance;
 pub mod fault;

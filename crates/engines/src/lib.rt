@@ -2,6 +2,7 @@
 //
 // `WordEngine` evaluates the S-box's equations on whole words, `ColumnEngine` looks the 64 columns up one by one. They are one engine
 // over two ways to compute the substitution layer, and both promise all that `Engine` asks. Neither has a limit.
+#![tactic(auto)]
 
 mod software;
 

@@ -1,4 +1,5 @@
 // Examples of every layer, as tests: values that the standard prints or that another implementation gave, and the ends of ranges.
+#![tactic(auto)]
 
 #[cfg(test)]
 mod digest_sessions;

@@ -4,14 +4,11 @@ use Rattle.std.proofs.Common.{◌≡◌, ℕ, ◌+◌, ◌*◌, ◌/◌, ◌%◌
 use Rattle.std.proofs.lemmas.List.FromFn.{fill_by_all, get_or-map-range_with_len, length-map-range_with_len}
 use Rattle.std.proofs.lemmas.Bool.{and_from, cond-false, cond-true, eq-eqb, le-leb, ne_eqb}
 use Rattle.std.proofs.lemmas.Bool.Decides.{nat_tests}
+use Rattle.std.proofs.lemmas.Str.{digit_value-digit_char}
 use Rattle.std.specs.Char.{digit_char, digit_value}
 use Rattle.hexadecimal.specs.declared.fault.HexFault.{HexFault}
 use Rattle.hexadecimal.specs.Hexadecimal.{GivesBack, byte_at, bytes_of, digit_at, encoded, is_hex, nibble_at}
 use Rattle.hexadecimal.proofs.Digits.{Digits, test_from_digits}
-
--- the digit of a value has that value
-value_of_digit : (d : ℕ) → d < 16 → digit_value (digit_char d) ≡ d
-value_of_digit d h = grind (arith, nat_tests)
 
 module _ (bs : List ℕ) (fit : (k : ℕ) → k < length bs → get_or bs k 0 < 256) where
   count : length (encoded bs) ≡ 2 * length bs
@@ -32,7 +29,7 @@ module _ (bs : List ℕ) (fit : (k : ℕ) → k < length bs → get_or bs k 0 < 
       ∙ (let half : (2 * k + 1) / 2 ≡ k = omega arith in ap (λ (i : ℕ). get_or bs i 0 % 16) half)
 
   value_at : (k v : ℕ) → k < 2 * length bs → nibble_at bs k ≡ v → v < 16 → digit_value (get_or (encoded bs) k 0) ≡ v
-  value_at k v h e small = ap digit_value (digit_of_encoded k h ∙ ap digit_char e) ∙ value_of_digit v small
+  value_at k v h e small = ap digit_value (digit_of_encoded k h ∙ ap digit_char e) ∙ digit_value-digit_char v (omega arith)
 
   byte_of_encoded : (k : ℕ) → k < length bs → get_or bs k 0 ≡ byte_at (encoded bs) k
   byte_of_encoded k h =

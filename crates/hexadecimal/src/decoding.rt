@@ -43,8 +43,8 @@ fn is_hex(text: &[u8]) -> bool
 }
 
 fn write_bytes(text: &[u8], bytes: &mut [u8])
-    requires bytes_value { 2 * length bytes.old ≡ length text.now }
-    requires by_index { (k : ℕ) → k < length text.now → digit_value (slice_index text.now k) < 16 }
+    requires half_the_digits { 2 * length bytes.old ≡ length text.now }
+    requires digits_only { (k : ℕ) → k < length text.now → digit_value (slice_index text.now k) < 16 }
     ensures all_bytes { bytes.new ≡ bytes_of text.now }
 {
     for k in 0..bytes.len() {

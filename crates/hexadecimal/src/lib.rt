@@ -1,5 +1,7 @@
 // Text of the console: bytes as hexadecimal digits, and numbers. Nothing here allocates.
 
+#![tactic(auto)]
+
 mod decoding;
 mod digit;
 mod encoding;

@@ -1,4 +1,5 @@
 // Engines over engines: each is an engine itself, and promises all that `Engine` asks of one.
+#![tactic(auto)]
 
 mod either;
 mod quota;

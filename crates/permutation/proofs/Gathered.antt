@@ -1,6 +1,6 @@
 -- Setting the columns of five words one by one gathers the bits of each word.
 -- Assumes nothing.
-use Rattle.std.proofs.Common.{◌≡◌, ℕ, ◌+◌, ◌-◌, ◌*◌, ◌^◌, List, [], ◌∷◌, get_or, sym, refl, ap, ◌∙◌, add_comm}
+use Rattle.std.proofs.Common.{◌≡◌, ℕ, ◌+◌, ◌-◌, ◌*◌, ◌^◌, List, get_or, sym, refl, ap, ◌∙◌, add_comm}
 use lib.Bits.{bit_or, or_shifted_r}
 use Rattle.permutation.specs.Bits.{gather}
 use Rattle.permutation.specs.OneColumn.{gathered, with_column}

@@ -1,6 +1,6 @@
 -- Rotation: what `rotate_right` returns is the number rotated right, and where its bits go, at every width.
 -- Assumes nothing.
-use Rattle.std.proofs.Common.{◌≡◌, ℕ, suc, ◌+◌, ◌-◌, ◌*◌, ◌/◌, ◌%◌, ◌^◌, ◌<◌, ◌≤◌, sym, ap, ◌∙◌, subst, ap₂, ⊎_elim, add-zero, mod-lt, mod-eq_of_lt, add_comm, add-one, arith, shr-shr, shr_lt}
+use Rattle.std.proofs.Common.{◌≡◌, ℕ, suc, ◌+◌, ◌-◌, ◌*◌, ◌/◌, ◌%◌, ◌^◌, ◌<◌, ◌≤◌, sym, ap, ◌∙◌, subst, ap₂, ⊎_elim, add-zero, mod-eq_of_lt, add_comm, add-one, arith, shr-shr, shr_lt}
 use native.Mathlib.Nat.{mul-mod_left, add-mod_right}
 use lib.Bits.{bit_or, or_shifted_r}
 use lib.Pow.{field, high, low, mod-mod-pow, mod-pow-add, shl-shr}

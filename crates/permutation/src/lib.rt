@@ -2,6 +2,7 @@
 //
 // `permute` makes a run of rounds with any `Substitution`; `Words` evaluates the S-box's equations on whole words, `Columns` looks the
 // 64 columns up one by one. Both promise the state that specs/Permutation.antt defines by columns and table.
+#![tactic(auto)]
 
 mod columns;
 mod diffusion;

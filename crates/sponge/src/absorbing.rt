@@ -12,10 +12,10 @@ use engine::{Engine, EngineFault};
 // Loads a start value and makes run 12.
 pub fn initialize<E: Engine>(engine: &mut E, value: u64) -> Result<(), EngineFault>
     ensures paid_or_refused { result ≡ paid 1 (meaning E.Engine engine.old) tt }
-    ensures words_initialized { OnOk result (words engine.new ≡ initialized value) }
+    ensures words_initialized { OnOk result (E.words engine.new ≡ initialized value) }
     ensures runs_spent { meaning E.Engine engine.new
-        ≡ after 1 (words engine.new) (meaning E.Engine engine.old) }
-    ensures same_lender { lender engine.new ≡ lender engine.old }
+        ≡ after 1 (E.words engine.new) (meaning E.Engine engine.old) }
+    ensures same_lender { E.lender engine.new ≡ E.lender engine.old }
 {
     engine.load(value, 0, 0, 0, 0);
     engine.run(12)?;
@@ -25,11 +25,11 @@ pub fn initialize<E: Engine>(engine: &mut E, value: u64) -> Result<(), EngineFau
 // Mixes the word of a block into w0 and makes run 12.
 pub fn absorb_word<E: Engine>(engine: &mut E, word: u64) -> Result<(), EngineFault>
     ensures paid_or_refused { result ≡ paid 1 (meaning E.Engine engine.old) tt }
-    ensures word_absorbed { OnOk result (words engine.new
-        ≡ permuted 12 (mixed 0 word (words engine.old))) }
+    ensures word_absorbed { OnOk result (E.words engine.new
+        ≡ permuted 12 (mixed 0 word (E.words engine.old))) }
     ensures runs_spent { meaning E.Engine engine.new
-        ≡ after 1 (words engine.new) (meaning E.Engine engine.old) }
-    ensures same_lender { lender engine.new ≡ lender engine.old }
+        ≡ after 1 (E.words engine.new) (meaning E.Engine engine.old) }
+    ensures same_lender { E.lender engine.new ≡ E.lender engine.old }
 {
     engine.mix(0, word)?;
     engine.run(12)?;
@@ -40,13 +40,13 @@ pub fn absorb_word<E: Engine>(engine: &mut E, word: u64) -> Result<(), EngineFau
 fn absorb_byte<E: Engine>(engine: &mut E, block: &mut Block, byte: u8) -> Result<(), EngineFault>
     ensures paid_or_refused { result
         ≡ paid (whole_blocks (part_of block.old ++ byte ∷ [])) (meaning E.Engine engine.old) tt }
-    ensures byte_absorbed { OnOk result (words engine.new
-        ≡ absorbed (words engine.old) (part_of block.old ++ byte ∷ [])) }
+    ensures byte_absorbed { OnOk result (E.words engine.new
+        ≡ absorbed (E.words engine.old) (part_of block.old ++ byte ∷ [])) }
     ensures rest_kept { OnOk result (part_of block.new
         ≡ rest_of (part_of block.old ++ byte ∷ [])) }
     ensures runs_spent { meaning E.Engine engine.new
-        ≡ after (whole_blocks (part_of block.old ++ byte ∷ [])) (words engine.new) (meaning E.Engine engine.entry.now) }
-    ensures same_lender { lender engine.new ≡ lender engine.old }
+        ≡ after (whole_blocks (part_of block.old ++ byte ∷ [])) (E.words engine.new) (meaning E.Engine engine.old) }
+    ensures same_lender { E.lender engine.new ≡ E.lender engine.old }
 {
     let Some(word) = block.place(byte) else {
         return Ok(());
@@ -63,13 +63,13 @@ pub fn absorb_bytes<E: Engine>(
 ) -> Result<(), EngineFault>
     ensures paid_or_refused { result
         ≡ paid (whole_blocks (part_of block.old ++ piece.now)) (meaning E.Engine engine.old) tt }
-    ensures piece_absorbed { OnOk result (words engine.new
-        ≡ absorbed (words engine.old) (part_of block.old ++ piece.now)) }
+    ensures piece_absorbed { OnOk result (E.words engine.new
+        ≡ absorbed (E.words engine.old) (part_of block.old ++ piece.now)) }
     ensures rest_kept { OnOk result (part_of block.new
         ≡ rest_of (part_of block.old ++ piece.now)) }
     ensures runs_spent { meaning E.Engine engine.new
-        ≡ after (whole_blocks (part_of block.old ++ piece.now)) (words engine.new) (meaning E.Engine engine.old) }
-    ensures same_lender { lender engine.new ≡ lender engine.old }
+        ≡ after (whole_blocks (part_of block.old ++ piece.now)) (E.words engine.new) (meaning E.Engine engine.old) }
+    ensures same_lender { E.lender engine.new ≡ E.lender engine.old }
 {
     for byte in piece.iter() {
         absorb_byte(engine, block, *byte)?;

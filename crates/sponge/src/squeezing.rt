@@ -10,11 +10,11 @@ use engine::{Engine, EngineFault};
 // Makes run 12 before the first byte of an output block.
 fn refill<E: Engine>(engine: &mut E, at: usize) -> Result<(), EngineFault>
     ensures paid_or_refused { result ≡ paid (runs_to at (at + 1)) (meaning E.Engine engine.old) tt }
-    ensures words_run { OnOk result (words engine.new
-        ≡ after_runs (runs_to at (at + 1)) (words engine.old)) }
+    ensures words_run { OnOk result (E.words engine.new
+        ≡ after_runs (runs_to at (at + 1)) (E.words engine.old)) }
     ensures runs_spent { meaning E.Engine engine.new
-        ≡ after (runs_to at (at + 1)) (words engine.new) (meaning E.Engine engine.old) }
-    ensures same_lender { lender engine.new ≡ lender engine.old }
+        ≡ after (runs_to at (at + 1)) (E.words engine.new) (meaning E.Engine engine.old) }
+    ensures same_lender { E.lender engine.new ≡ E.lender engine.old }
 {
     if at % 8 != 0 {
         return Ok(());
@@ -25,7 +25,7 @@ fn refill<E: Engine>(engine: &mut E, at: usize) -> Result<(), EngineFault>
 
 // The word that is put out: w0.
 fn output_word<E: Engine>(engine: &E) -> Result<u64, EngineFault>
-    ensures first_word { result ≡ Ok (slice_index (words engine.now) 0) }
+    ensures first_word { result ≡ Ok (slice_index (E.words engine.now) 0) }
 {
     engine.read(0)
 }
@@ -33,12 +33,12 @@ fn output_word<E: Engine>(engine: &E) -> Result<u64, EngineFault>
 // The byte at a place of the output, where all before it were given.
 pub fn squeeze_byte<E: Engine>(engine: &mut E, at: usize) -> Result<u8, EngineFault>
     ensures paid_or_refused { result
-        ≡ paid (runs_to at (at + 1)) (meaning E.Engine engine.old) (byte_at (words engine.old) at at) }
-    ensures words_run { OnOk result (words engine.new
-        ≡ after_runs (runs_to at (at + 1)) (words engine.old)) }
+        ≡ paid (runs_to at (at + 1)) (meaning E.Engine engine.old) (byte_at (E.words engine.old) at at) }
+    ensures words_run { OnOk result (E.words engine.new
+        ≡ after_runs (runs_to at (at + 1)) (E.words engine.old)) }
     ensures runs_spent { meaning E.Engine engine.new
-        ≡ after (runs_to at (at + 1)) (words engine.new) (meaning E.Engine engine.old) }
-    ensures same_lender { lender engine.new ≡ lender engine.old }
+        ≡ after (runs_to at (at + 1)) (E.words engine.new) (meaning E.Engine engine.old) }
+    ensures same_lender { E.lender engine.new ≡ E.lender engine.old }
 {
     refill(engine, at)?;
     let word = output_word(engine)?;

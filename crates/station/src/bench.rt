@@ -68,7 +68,7 @@ fn pile(kind: Kind, quotas: Quotas) -> Pile
 
 // The five words of an engine. No place below 5 is refused.
 pub fn five_words<E: Engine>(engine: &E) -> State
-    ensures words_read { result ≡ five_read (words engine.now) }
+    ensures words_read { result ≡ five_read (E.words engine.now) }
 {
     [
         engine.read(0).unwrap(),

@@ -1,5 +1,6 @@
 // The station console: reads commands from standard input, does each through the library, and prints what it did, a line for each.
 // docs/CONSOLE.md has the commands and their answers.
+#![tactic(auto)]
 
 mod bench;
 mod bench_answers;

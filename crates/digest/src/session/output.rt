@@ -19,13 +19,13 @@ fn squeeze_bytes<E: Engine>(engine: &mut E, given: usize, out: &mut [u8]) -> Res
     requires within { given + length out.old ≤ 16777216 }
     ensures paid_or_refused { result
         ≡ paid (runs_to given (given + length out.old)) (meaning E.Engine engine.old) tt }
-    ensures words_run { OnOk result (words engine.new
-        ≡ after_runs (runs_to given (given + length out.old)) (words engine.old)) }
+    ensures words_run { OnOk result (E.words engine.new
+        ≡ after_runs (runs_to given (given + length out.old)) (E.words engine.old)) }
     ensures bytes_given { OnOk result (out.new
-        ≡ bytes_next (length out.old) (words engine.old) given) }
+        ≡ bytes_next (length out.old) (E.words engine.old) given) }
     ensures runs_spent { meaning E.Engine engine.new
-        ≡ after (runs_to given (given + length out.old)) (words engine.new) (meaning E.Engine engine.entry.now) }
-    ensures same_lender { lender engine.new ≡ lender engine.old }
+        ≡ after (runs_to given (given + length out.old)) (E.words engine.new) (meaning E.Engine engine.old) }
+    ensures same_lender { E.lender engine.new ≡ E.lender engine.old }
 {
     for i in 0..out.len() {
         out[i] = squeeze_byte(engine, given + i)?;
@@ -39,7 +39,7 @@ impl<E: Engine> Squeezing<E> {
     pub fn squeeze(&mut self, out: &mut [u8]) -> Result<(), SuiteFault>
         ensures squeezed_or_refused { (result, out.new, squeezing_of E.Engine self.new)
             ≡ squeezing_piece out.old (squeezing_of E.Engine self.old) }
-        ensures same_lender { lender self.new.engine ≡ lender self.old.engine }
+        ensures same_lender { E.lender self.new.engine ≡ E.lender self.old.engine }
         ensures outputs_join { OutputsJoin }
         ensures whole_digest { WholeDigest }
         ensures cost_formulas { CostFormulas }
@@ -51,7 +51,7 @@ impl<E: Engine> Squeezing<E> {
     fn give(&mut self, out: &mut [u8]) -> Result<(), SuiteFault>
         ensures squeezed_or_refused { (result, out.new, squeezing_of E.Engine self.new)
             ≡ squeezing_piece out.old (squeezing_of E.Engine self.old) }
-        ensures same_lender { lender self.new.engine ≡ lender self.old.engine }
+        ensures same_lender { E.lender self.new.engine ≡ E.lender self.old.engine }
     {
         self.admit(out.len())?;
         let runs = completed_runs(&self.engine);
@@ -72,7 +72,7 @@ impl<E: Engine> Squeezing<E> {
     fn stop(&mut self)
         ensures nothing_kept { squeezing_of E.Engine self.new
             ≡ stopped_giving self.old.limit (wiped (meaning E.Engine self.old.engine)) }
-        ensures same_lender { lender self.new.engine ≡ lender self.old.engine }
+        ensures same_lender { E.lender self.new.engine ≡ E.lender self.old.engine }
     {
         self.engine.load(0, 0, 0, 0, 0);
         self.given = 0;

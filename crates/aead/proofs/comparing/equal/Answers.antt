@@ -5,7 +5,7 @@ use Rattle.aead.proofs.comparing.equal.Goals as goal
 pub returns : goal.returns
 returns c =
     record {
-      all-bytes-compared =
-          c.differences.ensures.none-where-same
+      all_bytes_compared =
+          c.differences.ensures.none_where_same
           ∙ same_takes c.args.left.now c.args.right.now 16 (search rules) (search rules);
     }

@@ -5,6 +5,6 @@ use Rattle.aead.proofs.opening.last_block.Goals as goal
 pub returns : goal.returns
 returns c =
     record {
-      bytes-copied =
-          c.copy-from-slice.ensures.after ∙ take_rest c.args.sealed.now (length c.args.sealed.now - 16);
+      bytes_copied =
+          c.copy_from_slice.ensures.after ∙ take_rest c.args.sealed.now (length c.args.sealed.now - 16);
     }

@@ -4,7 +4,7 @@ use Rattle.aead.proofs.opening.open.Goals as goal
 pub returns : goal.returns
 returns g c =
     record {
-      opened-or-refused = c.open-or-refuse.ensures.opened-or-refused;
+      opened_or_refused = c.open_or_refuse.ensures.opened_or_refused;
       sealing_undoes_opening = sealing_undoes_opening;
-      accepts-exactly-sealed-texts = accepts_exactly_sealed;
+      accepts_exactly_sealed_texts = accepts_exactly_sealed;
     }

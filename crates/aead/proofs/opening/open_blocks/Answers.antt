@@ -1,4 +1,4 @@
-use Rattle.std.proofs.Common.{◌≡◌, ℕ, ◌+◌, List, refl, ap, ◌∙◌, arith, rules}
+use Rattle.std.proofs.Common.{ℕ, ◌+◌, List, refl, ap, ◌∙◌, arith, rules}
 use Rattle.engine.proofs.Spending.{ok_same, turn}
 use Rattle.engine.specs.Meaning.{Meaning}
 use Rattle.engine.specs.Of.{meaning}
@@ -14,15 +14,15 @@ loop-i-preserved g c =
     let sealed = c.args.sealed.now in
     let i = c.loop-i.i in
     let t = turn m y (meaning g.E.Engine c.absorb.new.engine) (meaning g.E.Engine c.run.new.self) i 8 _ (absorbed y.words c.block.result) c.run.result
-    refl c.loop-i.invariant.0 c.loop-i.invariant.1 c.absorb.ensures.block-mixed c.run.ensures.run-made-or-unchanged
-    c.in-ok-run.was
+    refl c.loop-i.invariant.0 c.loop-i.invariant.1 c.absorb.ensures.block_mixed c.run.ensures.run_made_or_unchanged
+    c.in_ok-run.was
     in
     let words = ap (λ (x : Meaning). x.words) c.loop-i.invariant.0 in
-    let new = uncovered_is sealed i y.words _ c.uncover.new.out (ok_same _ _ c.in-ok-mask.ensures.bytes_read) c.uncover.ensures.bytes_xored in (
+    let new = uncovered_is sealed i y.words _ c.uncover.new.out (ok_same _ _ c.in_ok-mask.ensures.bytes_read) c.uncover.ensures.bytes_xored in (
       t.0
           ∙ ap (λ (ws : List ℕ). after (i + 1) ws m)
           (opened_next m.words sealed i y.words c.uncover.new.out c.block.result _ _ (omega arith) words new
-          (c.block.ensures.block-is (search rules)) refl refl),
+          (c.block.ensures.block_is (search rules)) refl refl),
       t.1,
       opened_out m.words sealed i y.words c.uncover.new.out _ _ (omega arith) words new c.loop-i.invariant.2,
     )

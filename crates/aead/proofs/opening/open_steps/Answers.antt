@@ -1,4 +1,4 @@
-use Rattle.std.proofs.Common.{◌≡◌, ◌+◌, ◌/◌, ◌++◌, length, sym, ap, ◌∙◌, arith}
+use Rattle.std.proofs.Common.{◌+◌, ◌/◌, ◌++◌, length, sym, ap, ◌∙◌, arith}
 use Rattle.engine.proofs.Spending.{next, next_spent, refused}
 use Rattle.engine.specs.Of.{meaning}
 use Rattle.engine.specs.Runs.{paid}
@@ -7,78 +7,78 @@ use Rattle.aead.specs.Cipher.{cost, data_blocks}
 use Rattle.aead.proofs.Opens.{tag_of_is, unsealed_is}
 use Rattle.aead.proofs.opening.open_steps.Goals as goal
 
-pub returns-in-err-prepare : goal.returns-in-err-prepare
+pub returns-in_err-prepare : goal.returns-in_err-prepare
 unfolding cost
-returns-in-err-prepare g c =
+returns-in_err-prepare g c =
     let m = meaning g.E.Engine c.args.engine.now in
     let ad = length c.args.front.now + length c.args.back.now in
     let t = refused m (meaning g.E.Engine c.prepare.new.engine) (1 + data_blocks ad) (cost ad (length c.args.sealed.now)) tt _ _ _ _ _
-    (err_from_is_err_and c.from-residual.result c.from-residual.ensures.1) c.in-err-prepare.was
-    c.prepare.ensures.paid-or-refused c.prepare.ensures.runs-spent (omega arith)
+    (err_from_is_err_and c.from_residual.result c.from_residual.ensures.1) c.in_err-prepare.was
+    c.prepare.ensures.paid_or_refused c.prepare.ensures.runs_spent (omega arith)
     in
-    record { paid-or-refused = t.0; text-written = t.1; runs-spent = t.2 }
+    record { paid_or_refused = t.0; text_written = t.1; runs_spent = t.2 }
 
-pub returns-in-err-open-text : goal.returns-in-err-open-text
+pub returns-in_err-open_text : goal.returns-in_err-open_text
 unfolding cost
-returns-in-err-open-text g c =
+returns-in_err-open_text g c =
     let m = meaning g.E.Engine c.args.engine.now in
     let y = meaning g.E.Engine c.prepare.new.engine in
-    let z = meaning g.E.Engine c.open-text.new.engine in
+    let z = meaning g.E.Engine c.open_text.new.engine in
     let ad = length c.args.front.now + length c.args.back.now in
     let n = length c.args.sealed.now / 16 in
     let t = refused m z (1 + data_blocks ad + n) (cost ad (length c.args.sealed.now)) tt _ _ _ _ _
-    (err_from_is_err_and c.from-residual-in-err-open-text.result c.from-residual-in-err-open-text.ensures.1)
-    c.in-err-open-text.was
-    (next m y (1 + data_blocks ad) n tt tt tt _ _ c.prepare.ensures.runs-spent c.prepare.ensures.paid-or-refused
-    c.in-ok-prepare.was c.open-text.ensures.paid-or-refused)
-    (next_spent m y z (1 + data_blocks ad) n c.prepare.ensures.runs-spent c.open-text.ensures.runs-spent) (omega arith)
+    (err_from_is_err_and c.from_residual-in_err-open_text.result c.from_residual-in_err-open_text.ensures.1)
+    c.in_err-open_text.was
+    (next m y (1 + data_blocks ad) n tt tt tt _ _ c.prepare.ensures.runs_spent c.prepare.ensures.paid_or_refused
+    c.in_ok-prepare.was c.open_text.ensures.paid_or_refused)
+    (next_spent m y z (1 + data_blocks ad) n c.prepare.ensures.runs_spent c.open_text.ensures.runs_spent) (omega arith)
     in
-    record { paid-or-refused = t.0; text-written = t.1; runs-spent = t.2 }
+    record { paid_or_refused = t.0; text_written = t.1; runs_spent = t.2 }
 
-pub returns-in-err-tag : goal.returns-in-err-tag
+pub returns-in_err-tag : goal.returns-in_err-tag
 unfolding cost
-returns-in-err-tag g c =
+returns-in_err-tag g c =
     let m = meaning g.E.Engine c.args.engine.now in
     let y = meaning g.E.Engine c.prepare.new.engine in
-    let z = meaning g.E.Engine c.open-text.new.engine in
+    let z = meaning g.E.Engine c.open_text.new.engine in
     let e = meaning g.E.Engine c.finalize.new.engine in
     let ad = length c.args.front.now + length c.args.back.now in
     let n = length c.args.sealed.now / 16 in
-    let spent = next_spent m y z (1 + data_blocks ad) n c.prepare.ensures.runs-spent c.open-text.ensures.runs-spent in
-    let done = next m y (1 + data_blocks ad) n tt tt tt _ _ c.prepare.ensures.runs-spent c.prepare.ensures.paid-or-refused
-    c.in-ok-prepare.was c.open-text.ensures.paid-or-refused
+    let spent = next_spent m y z (1 + data_blocks ad) n c.prepare.ensures.runs_spent c.open_text.ensures.runs_spent in
+    let done = next m y (1 + data_blocks ad) n tt tt tt _ _ c.prepare.ensures.runs_spent c.prepare.ensures.paid_or_refused
+    c.in_ok-prepare.was c.open_text.ensures.paid_or_refused
     in
     let t = refused m e (1 + data_blocks ad + n + 1) (1 + data_blocks ad + n + 1) _ _ _ _ _ _
-    (err_from_is_err_and c.from-residual-in-err-tag.result c.from-residual-in-err-tag.ensures.1) c.in-err-tag.was
-    (next m z (1 + data_blocks ad + n) 1 tt tt _ _ _ spent done c.in-ok-open-text.was c.finalize.ensures.paid-or-refused)
-    (next_spent m z e (1 + data_blocks ad + n) 1 spent c.finalize.ensures.runs-spent) (omega arith)
+    (err_from_is_err_and c.from_residual-in_err-tag.result c.from_residual-in_err-tag.ensures.1) c.in_err-tag.was
+    (next m z (1 + data_blocks ad + n) 1 tt tt _ _ _ spent done c.in_ok-open_text.was c.finalize.ensures.paid_or_refused)
+    (next_spent m z e (1 + data_blocks ad + n) 1 spent c.finalize.ensures.runs_spent) (omega arith)
     in
-    record { paid-or-refused = t.0; text-written = t.1; runs-spent = t.2 }
+    record { paid_or_refused = t.0; text_written = t.1; runs_spent = t.2 }
 
 pub returns : goal.returns
 unfolding cost
 returns g c =
     let m = meaning g.E.Engine c.args.engine.now in
     let y = meaning g.E.Engine c.prepare.new.engine in
-    let z = meaning g.E.Engine c.open-text.new.engine in
+    let z = meaning g.E.Engine c.open_text.new.engine in
     let e = meaning g.E.Engine c.finalize.new.engine in
     let ad = length c.args.front.now + length c.args.back.now in
     let sealed = c.args.sealed.now in
     let n = length sealed / 16 in
-    let spent = next_spent m y z (1 + data_blocks ad) n c.prepare.ensures.runs-spent c.open-text.ensures.runs-spent in
-    let done = next m y (1 + data_blocks ad) n tt tt tt _ _ c.prepare.ensures.runs-spent c.prepare.ensures.paid-or-refused
-    c.in-ok-prepare.was c.open-text.ensures.paid-or-refused
+    let spent = next_spent m y z (1 + data_blocks ad) n c.prepare.ensures.runs_spent c.open_text.ensures.runs_spent in
+    let done = next m y (1 + data_blocks ad) n tt tt tt _ _ c.prepare.ensures.runs_spent c.prepare.ensures.paid_or_refused
+    c.in_ok-prepare.was c.open_text.ensures.paid_or_refused
     in
-    let ready = c.in-ok-prepare.ensures.words-ready in
+    let ready = c.in_ok-prepare.ensures.words_ready in
     record {
-      paid-or-refused =
-          sym c.in-ok-tag.was
-          ∙ next m z (1 + data_blocks ad + n) 1 tt tt _ _ _ spent done c.in-ok-open-text.was c.finalize.ensures.paid-or-refused
+      paid_or_refused =
+          sym c.in_ok-tag.was
+          ∙ next m z (1 + data_blocks ad + n) 1 tt tt _ _ _ spent done c.in_ok-open_text.was c.finalize.ensures.paid_or_refused
           ∙ ap (paid (1 + data_blocks ad + n + 1) m)
           (tag_of_is c.args.key.now c.args.nonce.now (c.args.front.now ++ c.args.back.now) sealed y.words z.words ready
-          c.in-ok-open-text.ensures.text-absorbed);
-      text-written =
+          c.in_ok-open_text.ensures.text_absorbed);
+      text_written =
           unsealed_is c.args.key.now c.args.nonce.now (c.args.front.now ++ c.args.back.now) sealed y.words _ ready
-          c.in-ok-open-text.ensures.plaintext-written;
-      runs-spent = next_spent m z e (1 + data_blocks ad + n) 1 spent c.finalize.ensures.runs-spent;
+          c.in_ok-open_text.ensures.plaintext_written;
+      runs_spent = next_spent m z e (1 + data_blocks ad + n) 1 spent c.finalize.ensures.runs_spent;
     }

@@ -8,9 +8,9 @@ pub loop-i-preserved : goal.loop-i-preserved
 loop-i-preserved c =
     let front = c.args.front.now in
     let back = c.args.back.now in
-    let byte : c.padded-at.result ≡ get_or (padded (front ++ back)) (c.args.start + c.loop-i.i) 0 =
-    c.padded-at.ensures.byte_is ∙ byte_padded front back c.saturating-add.result
-    ∙ saturated front back (c.args.start + c.loop-i.i) c.saturating-add.result (search rules) (search rules) c.saturating-add.ensures
+    let byte : c.padded_at.result ≡ get_or (padded (front ++ back)) (c.args.start + c.loop-i.i) 0 =
+    c.padded_at.ensures.byte_is ∙ byte_padded front back c.saturating_add.result
+    ∙ saturated front back (c.args.start + c.loop-i.i) c.saturating_add.result (search rules) (search rules) c.saturating_add.ensures
     in (
       simp length-set c.loop-i.invariant.0,
       below_more _ _
@@ -22,7 +22,7 @@ pub returns : goal.returns
 returns c =
     let bs = c.args.front.now ++ c.args.back.now in
     record {
-      block-is =
+      block_is =
           λ within.
           ext_get_or 0 _ _ (c.loop-i.invariant.0 ∙ sym (length_from bs c.args.start (simp length-append (omega arith))))
           (λ k h. let lt : k < 16 = omega arith in c.loop-i.invariant.1 k (omega arith) ∙ sym (get_or_from bs c.args.start k lt));

@@ -5,7 +5,7 @@ use Rattle.aead.proofs.sealing.seal.Goals as goal
 pub returns : goal.returns
 returns g c =
     record {
-      sealed-or-refused = c.seal-or-refuse.ensures.sealed-or-refused;
+      sealed_or_refused = c.seal_or_refuse.ensures.sealed_or_refused;
       opening_undoes_sealing = opening_undoes_sealing;
       published_answer = published_answer;
     }

@@ -16,13 +16,13 @@ loop-i-preserved g c =
     let text = c.args.text.now in
     let i = c.loop-i.i in
     let t = turn m y (meaning g.E.Engine c.absorb.new.engine) (meaning g.E.Engine c.run.new.self) i 8 _ (absorbed y.words c.block.result) c.run.result
-    refl c.loop-i.invariant.0 c.loop-i.invariant.1 c.absorb.ensures.block-mixed c.run.ensures.run-made-or-unchanged
-    c.in-ok-run.was
+    refl c.loop-i.invariant.0 c.loop-i.invariant.1 c.absorb.ensures.block_mixed c.run.ensures.run_made_or_unchanged
+    c.in_ok-run.was
     in
     let words = ap (λ (x : Meaning). x.words) c.loop-i.invariant.0 in
-    let mixed = ap (λ (x : Meaning). x.words) c.absorb.ensures.block-mixed in
-    let b : c.block.result ≡ block text i = c.block.ensures.block-is (omega arith) ∙ ap (λ (x : List ℕ). block x i) (append-nil text) in
-    let new = c.copy-from-slice.ensures.after ∙ ok_same _ _ c.in-ok-squeeze.ensures.bytes_read in (
+    let mixed = ap (λ (x : Meaning). x.words) c.absorb.ensures.block_mixed in
+    let b : c.block.result ≡ block text i = c.block.ensures.block_is (omega arith) ∙ ap (λ (x : List ℕ). block x i) (append-nil text) in
+    let new = c.copy_from_slice.ensures.after ∙ ok_same _ _ c.in_ok-squeeze.ensures.bytes_read in (
       t.0
           ∙ ap (λ (ws : List ℕ). after (i + 1) ws m) (after_more m.words text i y.words c.block.result _ _ words b refl refl),
       t.1,

@@ -3,4 +3,4 @@ use Rattle.aead.proofs.Bytes.{word_is}
 use Rattle.aead.proofs.words.low_word.Goals as goal
 
 pub returns : goal.returns
-returns c = record { low-word-is = c.from-le-bytes.ensures ∙ sym (word_is c.args.block.now) }
+returns c = record { low_word_is = c.from_le_bytes.ensures ∙ sym (word_is c.args.block.now) }

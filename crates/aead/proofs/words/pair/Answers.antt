@@ -7,6 +7,6 @@ returns c =
     record {
       bytes_are =
           halves c.args.low c.args.high _ _
-          (c.copy-from-slice.ensures.after ∙ c.to-le-bytes.ensures ∙ sym (bytes_are c.args.low))
-          (c.copy-from-slice-2.ensures.after ∙ c.to-le-bytes-2.ensures ∙ sym (bytes_are c.args.high));
+          (c.copy_from_slice.ensures.after ∙ c.to_le_bytes.ensures ∙ sym (bytes_are c.args.low))
+          (c.copy_from_slice-2.ensures.after ∙ c.to_le_bytes-2.ensures ∙ sym (bytes_are c.args.high));
     }

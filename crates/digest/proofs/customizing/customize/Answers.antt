@@ -8,16 +8,16 @@ use Rattle.digest.proofs.customizing.customize.Goals as goal
 pub returns : goal.returns
 returns g c =
     record {
-      paid-or-refused = search rules;
-      words-customized =
+      paid_or_refused = search rules;
+      words_customized =
           customized_is (initialized c.args.value) c.bytes-bytes.result.now c.args.custom.bytes.now (part_of c.empty-block.result)
-          _ _ _ _ _ _ c.bytes-bytes.ensures.bytes-held c.empty-block.ensures.no_bytes refl
-          (c.in-ok-absorb-word.ensures.word-absorbed
+          _ _ _ _ _ _ c.bytes-bytes.ensures.bytes_held c.empty-block.ensures.no_bytes refl
+          (c.in_ok-absorb_word.ensures.word_absorbed
           ∙ ap (λ (ws : List ℕ). permuted 12 (mixed 0 (length c.bytes-bytes.result.now * 8) ws))
-          c.in-ok-initialize.ensures.words-initialized)
-          c.in-ok-absorb-bytes.ensures.piece-absorbed
-          c.in-ok-absorb-bytes.ensures.rest-kept c.padded-word.ensures.rest-padded
-          c.in-ok-absorb-word-2.ensures.word-absorbed;
-      runs-spent = search rules;
-      same-lender = search rules;
+          c.in_ok-initialize.ensures.words_initialized)
+          c.in_ok-absorb_bytes.ensures.piece_absorbed
+          c.in_ok-absorb_bytes.ensures.rest_kept c.padded_word.ensures.rest_padded
+          c.in_ok-absorb_word-2.ensures.word_absorbed;
+      runs_spent = search rules;
+      same_lender = search rules;
     }

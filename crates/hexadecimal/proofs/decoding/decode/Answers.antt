@@ -1,5 +1,5 @@
 use Rattle.hexadecimal.proofs.RoundTrip.{gives_back}
 use Rattle.hexadecimal.proofs.decoding.decode.Goals as goal
 
-pub returns : goal.returns
-returns c = record { bytes-written-or-unchanged = c.decode-text.ensures.bytes-written-or-unchanged; decoding-undoes-encoding = gives_back }
+pub returns-clause-decoding_undoes_encoding : goal.returns-clause-decoding_undoes_encoding
+returns-clause-decoding_undoes_encoding c = gives_back

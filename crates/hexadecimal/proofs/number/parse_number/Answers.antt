@@ -1,9 +1,5 @@
 use Rattle.hexadecimal.proofs.Numerals.{printed_read}
 use Rattle.hexadecimal.proofs.number.parse_number.Goals as goal
 
-pub returns : goal.returns
-returns c =
-    record {
-      number-written = c.read-number.ensures.number-written;
-      printed-is-read = printed_read c.args.text.now c.read-number.result c.read-number.ensures.number-written;
-    }
+pub returns-clause-printed_is_read : goal.returns-clause-printed_is_read
+returns-clause-printed_is_read c = printed_read c.args.text.now c.read_number.result c.read_number.ensures.number_written

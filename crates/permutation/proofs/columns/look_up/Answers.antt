@@ -9,7 +9,7 @@ loop-j-init c = gathered_none c.args.x
 
 pub loop-j-preserved : goal.loop-j-preserved
 loop-j-preserved c =
-    gathered_more c.args.x c.loop-j.y c.set-column.new.y c.loop-j.j c.loop-j.invariant
-    (c.set-column.ensures.column-set
+    gathered_more c.args.x c.loop-j.y c.set_column.new.y c.loop-j.j c.loop-j.invariant
+    (c.set_column.ensures.column_set
     ∙ ap (with_column c.loop-j.y c.loop-j.j)
-    (c.from.ensures ∙ c.entry-replacement.ensures.entry-is ∙ ap (λ (k : ℕ). get_or sbox k 0) c.column-at.ensures.column-is))
+    (c.from.ensures ∙ c.entry-replacement.ensures.entry_is ∙ ap (λ (k : ℕ). get_or sbox k 0) c.column_at.ensures.column_is))

@@ -8,8 +8,8 @@ pub returns : goal.returns
 unfolding spread
 returns c =
     record {
-      word-spread =
+      word_spread =
           ap₂ (λ (x y : ℕ). bit_xor (bit_xor c.args.word x) y)
-          (c.rotate-right.ensures ∙ rotate_right 64 c.args.word c.args.first (search rules) (search rules) (search rules))
-          (c.rotate-right-2.ensures ∙ rotate_right 64 c.args.word c.args.second (search rules) (search rules) (search rules));
+          (c.rotate_right.ensures ∙ rotate_right 64 c.args.word c.args.first (search rules) (search rules) (search rules))
+          (c.rotate_right-2.ensures ∙ rotate_right 64 c.args.word c.args.second (search rules) (search rules) (search rules));
     }

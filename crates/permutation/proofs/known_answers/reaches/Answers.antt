@@ -7,6 +7,6 @@ pub returns : goal.returns
 returns g c =
     record {
       reached =
-          subst (λ (s : List ℕ). Decides c.eq.result (s ≡ c.args.expected)) c.initialized.ensures.twelve-rounds
+          subst (λ (s : List ℕ). Decides c.eq.result (s ≡ c.args.expected)) c.initialized.ensures.twelve_rounds
           (slice_eq-Decides Decides-eqb _ _ _ c.eq.ensures);
     }

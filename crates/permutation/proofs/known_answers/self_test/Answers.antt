@@ -12,6 +12,6 @@ returns g c =
     record {
       passes = simp (hash256, xof128, cxof128);
       known_values = known_values;
-      sbox-agrees-with-equations = sbox_agrees;
+      sbox_agrees_with_equations = sbox_agrees;
       rotation_moves_bits = rotation_moves_bits;
     }

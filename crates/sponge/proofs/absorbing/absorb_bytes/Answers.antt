@@ -15,11 +15,11 @@ pub loop-byte-init : goal.loop-byte-init
 loop-byte-init g c =
     (taken_start (meaning g.E.Engine c.args.engine.now) (part_of c.args.block.now) (part_short c.args.block.now), refl)
 
-pub returns-in-err-absorb-byte : goal.returns-in-err-absorb-byte
-returns-in-err-absorb-byte g c =
+pub returns-in_err-absorb_byte : goal.returns-in_err-absorb_byte
+returns-in_err-absorb_byte g c =
     let m = meaning g.E.Engine c.args.engine.now in
     let y = meaning g.E.Engine c.loop-byte.engine in
-    let z = meaning g.E.Engine c.absorb-byte.new.engine in
+    let z = meaning g.E.Engine c.absorb_byte.new.engine in
     let part = part_of c.args.block.now in
     let piece = c.args.piece.now in
     let i = c.loop-byte.byte-index in
@@ -30,34 +30,34 @@ returns-in-err-absorb-byte g c =
     let le : whole_blocks (xs ++ b ∷ []) ≤ whole_blocks (part ++ piece) =
     rw on (front_blocks part piece (i + 1))
     in
-    let back = err_from_is_err_and c.from-residual.result c.from-residual.ensures.1 in
-    let t = refused m z (whole_blocks (xs ++ b ∷ [])) (whole_blocks (part ++ piece)) tt tt _ _ c.from-residual.result _ back
-    c.in-err-absorb-byte.was (more_paid m xs y (part_of c.loop-byte.block) inv (b ∷ []) _ c.absorb-byte.ensures.paid-or-refused)
-    (more_spent m xs y (part_of c.loop-byte.block) inv (b ∷ []) z c.absorb-byte.ensures.runs-spent) le
+    let back = err_from_is_err_and c.from_residual.result c.from_residual.ensures.1 in
+    let t = refused m z (whole_blocks (xs ++ b ∷ [])) (whole_blocks (part ++ piece)) tt tt _ _ c.from_residual.result _ back
+    c.in_err-absorb_byte.was (more_paid m xs y (part_of c.loop-byte.block) inv (b ∷ []) _ c.absorb_byte.ensures.paid_or_refused)
+    (more_spent m xs y (part_of c.loop-byte.block) inv (b ∷ []) z c.absorb_byte.ensures.runs_spent) le
     in
     record {
-      paid-or-refused = t.0;
-      piece-absorbed = t.1;
-      rest-kept = none_made c.from-residual.result _ back;
-      runs-spent = t.2;
-      same-lender = c.absorb-byte.ensures.same-lender ∙ c.loop-byte.invariant.1;
+      paid_or_refused = t.0;
+      piece_absorbed = t.1;
+      rest_kept = none_made c.from_residual.result _ back;
+      runs_spent = t.2;
+      same_lender = c.absorb_byte.ensures.same_lender ∙ c.loop-byte.invariant.1;
     }
 
 pub loop-byte-preserved : goal.loop-byte-preserved
 loop-byte-preserved g c =
     let m = meaning g.E.Engine c.args.engine.now in
     let y = meaning g.E.Engine c.loop-byte.engine in
-    let z = meaning g.E.Engine c.absorb-byte.new.engine in
+    let z = meaning g.E.Engine c.absorb_byte.new.engine in
     let part = part_of c.args.block.now in
     let piece = c.args.piece.now in
     let i = c.loop-byte.byte-index in
-    let rest = part_of c.absorb-byte.new.block in
-    let done = c.in-ok-absorb-byte.ensures in (
+    let rest = part_of c.absorb_byte.new.block in
+    let done = c.in_ok-absorb_byte.ensures in (
       subst (λ (xs : List ℕ). Taken m xs z rest) (one_more part piece i c.loop-byte-test.true)
           (taken_more m (part ++ take i piece) y (part_of c.loop-byte.block) c.loop-byte.invariant.0 (get_or piece i 0 ∷ []) z rest _ _
-          c.absorb-byte.ensures.paid-or-refused c.in-ok-absorb-byte.was c.absorb-byte.ensures.runs-spent
-          done.byte-absorbed done.rest-kept),
-      c.absorb-byte.ensures.same-lender ∙ c.loop-byte.invariant.1,
+          c.absorb_byte.ensures.paid_or_refused c.in_ok-absorb_byte.was c.absorb_byte.ensures.runs_spent
+          done.byte_absorbed done.rest_kept),
+      c.absorb_byte.ensures.same_lender ∙ c.loop-byte.invariant.1,
     )
 
 pub returns : goal.returns
@@ -74,9 +74,9 @@ returns g c =
     in
     let words_are = ap (λ (x : Meaning). x.words) t.engine_is in
     record {
-      paid-or-refused = afforded (whole_blocks (part ++ piece)) m tt t.runs_had;
-      piece-absorbed = words_are;
-      rest-kept = t.rest_is;
-      runs-spent = t.engine_is ∙ ap (λ (ws : List ℕ). after (whole_blocks (part ++ piece)) ws m) (sym words_are);
-      same-lender = c.loop-byte.invariant.1;
+      paid_or_refused = afforded (whole_blocks (part ++ piece)) m tt t.runs_had;
+      piece_absorbed = words_are;
+      rest_kept = t.rest_is;
+      runs_spent = t.engine_is ∙ ap (λ (ws : List ℕ). after (whole_blocks (part ++ piece)) ws m) (sym words_are);
+      same_lender = c.loop-byte.invariant.1;
     }

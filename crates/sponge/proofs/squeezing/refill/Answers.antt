@@ -12,14 +12,14 @@ returns-then-at-ne0 g c =
     let m = meaning g.E.Engine c.args.engine.now in
     let none : runs_to c.args.at (c.args.at + 1) ≡ 0 = runs_inside c.args.at (search rules) in
     record {
-      paid-or-refused = free (runs_to c.args.at (c.args.at + 1)) m tt none;
-      words-run = sym (ap (λ (n : ℕ). after_runs n m.words) none);
-      runs-spent = free_spent (runs_to c.args.at (c.args.at + 1)) m none;
-      same-lender = refl;
+      paid_or_refused = free (runs_to c.args.at (c.args.at + 1)) m tt none;
+      words_run = sym (ap (λ (n : ℕ). after_runs n m.words) none);
+      runs_spent = free_spent (runs_to c.args.at (c.args.at + 1)) m none;
+      same_lender = refl;
     }
 
-pub returns-in-err-run : goal.returns-in-err-run
-returns-in-err-run g c =
+pub returns-in_err-run : goal.returns-in_err-run
+returns-in_err-run g c =
     let one : runs_to c.args.at (c.args.at + 1) ≡ 1 = runs_first c.args.at (search rules) in
     rw one (search rules)
 

@@ -11,16 +11,16 @@ returns g c =
     let m = meaning g.E.Engine c.args.engine.now in
     let z = meaning g.E.Engine c.refill.new.engine in
     let at = c.args.at in
-    let done = c.in-ok-refill.ensures.words-run in
-    let byte = byte_is c.to-le-bytes.result c.in-ok-word.word z.words m.words at
-    (c.to-le-bytes.ensures ∙ sym (bytes_are c.in-ok-word.word)) (ok_same _ _ c.in-ok-word.ensures.first_word) done
+    let done = c.in_ok-refill.ensures.words_run in
+    let byte = byte_is c.to_le_bytes.result c.in_ok-word.word z.words m.words at
+    (c.to_le_bytes.ensures ∙ sym (bytes_are c.in_ok-word.word)) (ok_same _ _ c.in_ok-word.ensures.first_word) done
     in
     record {
-      paid-or-refused =
+      paid_or_refused =
           ap Ok byte
-          ∙ accepted (runs_to at (at + 1)) m tt tt (byte_at m.words at at) c.refill.result c.refill.ensures.paid-or-refused
-          c.in-ok-refill.was;
-      words-run = done;
-      runs-spent = c.refill.ensures.runs-spent;
-      same-lender = c.refill.ensures.same-lender;
+          ∙ accepted (runs_to at (at + 1)) m tt tt (byte_at m.words at at) c.refill.result c.refill.ensures.paid_or_refused
+          c.in_ok-refill.was;
+      words_run = done;
+      runs_spent = c.refill.ensures.runs_spent;
+      same_lender = c.refill.ensures.same_lender;
     }

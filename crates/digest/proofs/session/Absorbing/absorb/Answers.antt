@@ -5,8 +5,8 @@ use Rattle.digest.proofs.session.Absorbing.absorb.Goals as goal
 pub returns : goal.returns
 returns g c =
     record {
-      absorbed-or-refused = c.take.ensures.absorbed-or-refused;
-      same-lender = c.take.ensures.same-lender;
+      absorbed_or_refused = c.take.ensures.absorbed_or_refused;
+      same_lender = c.take.ensures.same_lender;
       pieces_join = pieces_join;
       known_values = known_values;
     }

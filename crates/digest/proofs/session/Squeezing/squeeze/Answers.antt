@@ -6,8 +6,8 @@ use Rattle.digest.proofs.session.Squeezing.squeeze.Goals as goal
 pub returns : goal.returns
 returns g c =
     record {
-      squeezed-or-refused = c.give.ensures.squeezed-or-refused;
-      same-lender = c.give.ensures.same-lender;
+      squeezed_or_refused = c.give.ensures.squeezed_or_refused;
+      same_lender = c.give.ensures.same_lender;
       outputs_join = outputs_join;
       whole_digest = whole_digest;
       cost_formulas = cost_formulas;

@@ -4,4 +4,4 @@ use Rattle.permutation.proofs.words.WordsSubstitution.substituted.Goals as goal
 
 pub returns : goal.returns
 returns c =
-    record { every-column-replaced = c.equations.ensures.equations-evaluated ∙ evaluated_substitutes c.args.x (search rules) }
+    record { every_column_replaced = c.equations.ensures.equations_evaluated ∙ evaluated_substitutes c.args.x (search rules) }

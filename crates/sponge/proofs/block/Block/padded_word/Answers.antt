@@ -6,9 +6,9 @@ use Rattle.sponge.proofs.block.Block.padded_word.Goals as goal
 pub returns : goal.returns
 returns c =
     record {
-      rest-padded =
-          c.from-le-bytes.ensures
+      rest_padded =
+          c.from_le_bytes.ensures
           ∙ sym (word_is _)
-          ∙ word_padded c.args.self.now.bytes c.args.self.now.filled c.with-end-mark-bytes.result c.fill.new.self (search rules) (search rules)
-          c.with-end-mark-bytes.ensures.mark_set (c.fill.ensures.after (λ y e. e));
+          ∙ word_padded c.args.self.now.bytes c.args.self.now.filled c.with_end_mark-bytes.result c.fill.new.self (search rules) (search rules)
+          c.with_end_mark-bytes.ensures.mark_set (c.fill.ensures.after (λ y e. e));
     }

@@ -5,12 +5,12 @@ use Rattle.sponge.proofs.block.Block.place.Goals as goal
 
 pub returns-then-at-lt7 : goal.returns-then-at-lt7
 returns-then-at-lt7 c =
-    record { byte-placed = place_inside c.args.self.now.bytes c.args.self.now.filled c.args.byte (search rules) (search rules) }
+    record { byte_placed = place_inside c.args.self.now.bytes c.args.self.now.filled c.args.byte (search rules) (search rules) }
 
 pub returns : goal.returns
 returns c =
     record {
-      byte-placed =
+      byte_placed =
           place_whole c.args.self.now.bytes c.args.self.now.filled c.args.byte (search rules) _ (search rules)
-          (search rules) (c.from-le-bytes.ensures ∙ sym (word_is _));
+          (search rules) (c.from_le_bytes.ensures ∙ sym (word_is _));
     }
