@@ -1,6 +1,6 @@
 -- A customization taken in, step by step.
 -- Assumes nothing.
-use Rattle.std.proofs.Common.{◌≡◌, ℕ, ◌*◌, List, [], ◌++◌, length, sym, refl, ap, ◌∙◌, ap₂}
+use Rattle.std.proofs.Common.{◌≡◌, ℕ, ◌*◌, List, [], ◌++◌, length, ap, ◌∙◌, ap₂}
 use Rattle.engine.specs.Meaning.{mixed, permuted}
 use Rattle.suite.specs.Words.{word}
 use Rattle.sponge.specs.Sponge.{absorbed, after_message, padded, rest_of}

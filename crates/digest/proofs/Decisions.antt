@@ -1,6 +1,6 @@
 -- A call that asks two questions: when it is accepted, and what it then answers and leaves.
 -- Assumes nothing.
-use Rattle.std.proofs.Common.{◌≡◌, ℕ, Bool, true, false, cond, Ok, Err, Result, sym, refl, ◌∙◌, arith}
+use Rattle.std.proofs.Common.{◌≡◌, ℕ, Bool, true, false, cond, Ok, Err, Result, refl, arith}
 use Rattle.suite.specs.declared.fault.SuiteFault.{SuiteFault}
 
 refused_is_no : (r : Result (Unit {0}) SuiteFault) (e : SuiteFault) → r ≡ Err e → r ≡ Ok tt → ⊥

@@ -1,6 +1,6 @@
 -- An engine after some bytes of output, and after more of them.
 -- Assumes nothing.
-use Rattle.std.proofs.Common.{◌≡◌, ℕ, suc, ◌+◌, ◌≤◌, true, List, [], ◌∷◌, ◌++◌, Ok, Result, sym, refl, ap, ◌∙◌, ap₂, arith}
+use Rattle.std.proofs.Common.{◌≡◌, ℕ, suc, ◌+◌, ◌≤◌, true, List, [], ◌∷◌, ◌++◌, Ok, Result, sym, ap, ◌∙◌, ap₂, arith}
 use Rattle.engine.proofs.Laws.{runs_add_up}
 use Rattle.engine.proofs.Spending.{free_spent, had, next_had, next_spent}
 use Rattle.engine.specs.Meaning.{Meaning}

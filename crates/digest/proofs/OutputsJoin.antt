@@ -1,6 +1,6 @@
 -- A finished session has given nothing, and an accepted output piece is the digest's next part.
 -- Assumes nothing.
-use Rattle.std.proofs.Common.{◌≡◌, ℕ, ◌+◌, ◌/◌, ◌≤◌, Bool, true, ◌&&◌, ltb, List, ◌++◌, length, replicate, Ok, Err, Result, sym, refl, ap, ◌∙◌, ap₂, arith}
+use Rattle.std.proofs.Common.{◌≡◌, ℕ, ◌+◌, ◌≤◌, Bool, true, ◌&&◌, ltb, List, ◌++◌, length, replicate, Ok, Err, Result, sym, refl, ap, ◌∙◌, ap₂, arith}
 use Rattle.engine.proofs.Laws.{runs_add_up}
 use Rattle.engine.specs.Meaning.{Meaning}
 use Rattle.engine.specs.Runs.{after, has, zero_words}
@@ -11,7 +11,7 @@ use Rattle.suite.specs.declared.fault.SuiteFault.TheVariants.{OutputTooLong}
 use Rattle.digest.specs.Laws.{Gave, OutputsJoin, Took}
 use Rattle.sponge.specs.Steps.{bytes_next, runs_to}
 use Rattle.digest.specs.Phases.{AbsorbingPhase, SqueezingPhase, finishing, giving, squeezing, stopped_giving}
-use Rattle.sponge.specs.Sponge.{absorbed, after_message, after_runs, blocks, rest_of}
+use Rattle.sponge.specs.Sponge.{after_message, after_runs, blocks}
 use Rattle.digest.specs.Functions.{Function, cost, digest}
 use Rattle.digest.proofs.Decisions.{goes, went}
 use Rattle.digest.proofs.DigestBytes.{digest_bytes}

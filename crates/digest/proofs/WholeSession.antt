@@ -1,6 +1,6 @@
 -- Whole sessions: every split of the message and of the output gives the digest, at the price of the formula.
 -- Assumes nothing.
-use Rattle.std.proofs.Common.{◌≡◌, ℕ, ◌+◌, ◌/◌, ◌≤◌, Bool, true, false, ◌&&◌, List, [], ◌∷◌, ◌++◌, length, is_ok, Ok, Err, Result, sym, refl, ap, ◌∙◌, subst, ap₂, inl, inr, arith}
+use Rattle.std.proofs.Common.{◌≡◌, ℕ, ◌+◌, ◌≤◌, Bool, true, false, ◌&&◌, List, [], ◌∷◌, ◌++◌, length, is_ok, Ok, Err, Result, sym, refl, ap, ◌∙◌, subst, ap₂, inl, inr, arith}
 use Rattle.engine.proofs.Laws.{runs_add_up}
 use Rattle.engine.specs.Meaning.{Meaning}
 use Rattle.engine.specs.Runs.{after, has, wiped, zero_words}
@@ -8,7 +8,7 @@ use Rattle.std.proofs.lemmas.List.{append_assoc, append-nil, length-append}
 use Rattle.std.proofs.lemmas.Bool.{and_parts, cases_Bool, false≢true}
 use Rattle.suite.specs.declared.fault.SuiteFault.{SuiteFault}
 use Rattle.digest.specs.Laws.{CostFormulas, Gave, Took, WholeDigest, absorb_all, joined, squeeze_all, whole}
-use Rattle.digest.specs.Phases.{AbsorbingPhase, SqueezingPhase, absorbing, finishing, squeezing, starting, stopped_taking}
+use Rattle.digest.specs.Phases.{AbsorbingPhase, SqueezingPhase, absorbing, finishing, squeezing, starting}
 use Rattle.sponge.specs.Sponge.{blocks, whole_blocks}
 use Rattle.digest.specs.Functions.{Function, cost, digest}
 use Rattle.digest.proofs.OutputsJoin.{gave, gave_more, gave_nothing, output_accepted, output_accepts}

@@ -1,6 +1,6 @@
 -- What pieces come to over a whole session: the digest of the joined message, at the price of the joined message and output.
 -- Assumes nothing.
-use Rattle.std.specs.Prelude.{◌≡◌, ℕ, ◌+◌, ◌/◌, ◌≤◌, Bool, true, ◌&&◌, List, [], ◌∷◌, ◌++◌, length, take, drop, is_ok, Ok}
+use Rattle.std.specs.Prelude.{◌≡◌, ℕ, ◌+◌, ◌/◌, ◌≤◌, Bool, true, ◌&&◌, List, [], ◌∷◌, ◌++◌, length, is_ok, Ok}
 use Rattle.engine.specs.Meaning.{Meaning}
 use Rattle.engine.specs.Runs.{after, has, wiped, zero_words}
 use Rattle.digest.specs.Phases.{AbsorbingPhase, SqueezingPhase, absorbing, finishing, giving, squeezing, starting, taking}

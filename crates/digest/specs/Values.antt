@@ -1,6 +1,6 @@
 -- Values that the definitions give, by computation.
 -- Assumes nothing.
-use Rattle.std.specs.Prelude.{◌≡◌, ℕ, List, [], ◌∷◌}
+use Rattle.std.specs.Prelude.{◌≡◌, [], ◌∷◌}
 use Rattle.suite.specs.Words.{word}
 use Rattle.sponge.specs.Sponge.{padded}
 use Rattle.digest.specs.Functions.{cost, digest, hash256}

@@ -1,9 +1,9 @@
 -- Pieces join: the whole blocks and the rest of two joined pieces are those of the rest of the first joined to the second.
 -- Assumes nothing.
-use Rattle.std.proofs.Common.{◌≡◌, ℕ, zero, suc, ◌+◌, ◌*◌, ◌/◌, ◌<◌, ◌≤◌, List, [], ◌∷◌, ◌++◌, length, take, drop, sym, refl, ap, ◌∙◌, ap₂, arith}
+use Rattle.std.proofs.Common.{◌≡◌, ℕ, zero, suc, ◌+◌, ◌*◌, ◌/◌, ◌≤◌, List, ◌++◌, length, take, drop, sym, refl, ap, ◌∙◌, ap₂, arith}
 use lib.Lanes.{number_l}
 use Rattle.engine.specs.Meaning.{mixed, permuted}
-use Rattle.std.proofs.lemmas.List.{append_assoc, drop-append-le, drop-drop, length-append, length-drop, take-append-le}
+use Rattle.std.proofs.lemmas.List.{drop-append-le, drop-drop, length-append, length-drop, take-append-le}
 use Rattle.suite.specs.Words.{word}
 use Rattle.sponge.specs.Sponge.{absorbed, after_blocks, rest_of, whole_blocks}
 

@@ -1,6 +1,6 @@
 -- An engine and a block after some bytes, and after more of them.
 -- Assumes nothing.
-use Rattle.std.proofs.Common.{◌≡◌, ℕ, ◌+◌, ◌<◌, ◌≤◌, true, List, [], ◌∷◌, ◌++◌, length, get_or, take, drop, Ok, Err, Result, sym, refl, ap, ◌∙◌, ap₂, arith}
+use Rattle.std.proofs.Common.{◌≡◌, ℕ, ◌+◌, ◌<◌, ◌≤◌, true, List, [], ◌∷◌, ◌++◌, length, get_or, take, drop, Ok, Result, sym, ap, ◌∙◌, ap₂, arith}
 use Rattle.engine.proofs.Spending.{free_spent, had, next_had, next_spent}
 use Rattle.engine.proofs.Laws.{runs_add_up}
 use Rattle.engine.specs.Meaning.{Meaning}

@@ -1,4 +1,4 @@
-use Rattle.std.proofs.Common.{◌≡◌, ℕ, ◌*◌, List, length, sym, refl, ap, ◌∙◌, rules}
+use Rattle.std.proofs.Common.{ℕ, ◌*◌, List, length, refl, ap, ◌∙◌, rules}
 use Rattle.engine.specs.Meaning.{mixed, permuted}
 use Rattle.sponge.specs.Held.{part_of}
 use Rattle.sponge.specs.Sponge.{initialized}

@@ -1,4 +1,4 @@
-use Rattle.std.proofs.Common.{◌≡◌, ℕ, ◌<◌, ◌≤◌, List, [], ◌∷◌, ◌++◌, length, sym, refl, ap, ◌∙◌, arith, rules}
+use Rattle.std.proofs.Common.{ℕ, ◌≤◌, [], ◌∷◌, ◌++◌, sym, refl, ap, ◌∙◌, arith}
 use Rattle.engine.proofs.Spending.{free, free_spent, none_made, refused}
 use Rattle.engine.specs.Of.{meaning}
 use Rattle.engine.specs.Runs.{after, paid}
@@ -9,17 +9,17 @@ use Rattle.sponge.proofs.Bytewise.{placed_crosses, placed_waits}
 use Rattle.sponge.proofs.Placing.{part_short}
 use Rattle.sponge.proofs.absorbing.absorb_byte.Goals as goal
 
-pub returns-in-default : goal.returns-in-default
-returns-in-default g c =
+pub returns-in_default : goal.returns-in_default
+returns-in_default g c =
     let m = meaning g.E.Engine c.args.engine.now in
     let part = part_of c.args.block.now in
     let w = placed_waits c.args.byte part (part_of c.place.new.self) (part_short c.args.block.now) c.place.result c.place.ensures.byte_placed
-    c.in-default.is
+    c.in_default.is
     in
     record {
       paid_or_refused = free (whole_blocks (part ++ c.args.byte ∷ [])) m tt w.none_whole;
       byte_absorbed = w.none_absorbed m.words;
-      rest_kept = w.all-rest;
+      rest_kept = w.all_rest;
       runs_spent = free_spent (whole_blocks (part ++ c.args.byte ∷ [])) m w.none_whole;
       same_lender = refl;
     }

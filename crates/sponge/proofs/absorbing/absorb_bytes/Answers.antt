@@ -1,8 +1,8 @@
-use Rattle.std.proofs.Common.{◌≡◌, ℕ, ◌+◌, ◌≤◌, List, [], ◌∷◌, ◌++◌, length, get_or, take, sym, refl, ap, ◌∙◌, subst, arith, rules}
+use Rattle.std.proofs.Common.{◌≡◌, ℕ, ◌+◌, ◌≤◌, List, [], ◌∷◌, ◌++◌, get_or, take, sym, refl, ap, ◌∙◌, subst, rules}
 use Rattle.engine.proofs.Spending.{afforded, none_made, refused}
 use Rattle.engine.specs.Meaning.{Meaning}
 use Rattle.engine.specs.Of.{meaning}
-use Rattle.engine.specs.Runs.{after, paid}
+use Rattle.engine.specs.Runs.{after}
 use Rattle.std.proofs.lemmas.List.{take_all}
 use Rattle.std.proofs.lemmas.Result.{err_from_is_err_and}
 use Rattle.sponge.specs.Held.{part_of}

@@ -1,7 +1,6 @@
-use Rattle.std.proofs.Common.{◌≡◌, ℕ, ◌+◌, ◌≤◌, List, sym, refl, ap, ◌∙◌, arith, rules}
-use Rattle.engine.proofs.Spending.{free, free_spent, ran_once}
+use Rattle.std.proofs.Common.{◌≡◌, ℕ, ◌+◌, sym, refl, ap, rules}
+use Rattle.engine.proofs.Spending.{free, free_spent}
 use Rattle.engine.specs.Of.{meaning}
-use Rattle.engine.specs.Runs.{after, paid}
 use Rattle.sponge.specs.Steps.{runs_to}
 use Rattle.sponge.specs.Sponge.{after_runs}
 use Rattle.sponge.proofs.Squeezed.{runs_first, runs_inside}

@@ -1,4 +1,4 @@
-use Rattle.std.proofs.Common.{◌≡◌, ◌+◌, Ok, sym, ap, ◌∙◌, rules}
+use Rattle.std.proofs.Common.{◌+◌, Ok, sym, ap, ◌∙◌}
 use Rattle.engine.proofs.Spending.{accepted, ok_same}
 use Rattle.engine.specs.Of.{meaning}
 use Rattle.suite.proofs.Words.{bytes_are}

@@ -1,4 +1,4 @@
-use Rattle.std.proofs.Common.{◌≡◌, ℕ, ◌+◌, ◌-◌, ◌≤◌, List, length, sym, refl, ap, ◌∙◌, subst, arith, rules}
+use Rattle.std.proofs.Common.{◌≡◌, ℕ, ◌+◌, ◌-◌, ◌≤◌, List, length, sym, refl, ap, ◌∙◌, subst, rules}
 use Rattle.engine.proofs.Spending.{afforded, none_made, paid_value, refused}
 use Rattle.engine.specs.Meaning.{Meaning}
 use Rattle.engine.specs.Of.{meaning}

@@ -1,4 +1,4 @@
-use Rattle.std.proofs.Common.{sym, ◌∙◌, arith, rules}
+use Rattle.std.proofs.Common.{sym, ◌∙◌, rules}
 use Rattle.suite.proofs.Words.{word_is}
 use Rattle.sponge.proofs.Placing.{place_inside, place_whole}
 use Rattle.sponge.proofs.block.Block.place.Goals as goal
