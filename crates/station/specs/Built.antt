@@ -1,6 +1,6 @@
 -- The engine that the operator chose, with the quotas set on it, as it is built.
 -- Assumes nothing.
-use Rattle.std.specs.Prelude.{◌≡◌, ℕ}
+use Rattle.std.specs.Prelude.{◌≡◌}
 use Rattle.engine.specs.Runs.{zero_words}
 use Rattle.engines.specs.declared.software.Software.{Software}
 use Rattle.layers.specs.declared.either.Either.{Either}
