@@ -1,8 +1,9 @@
--- Reading digits from the left: one more, and why a digit that is refused refuses the whole text.
+-- Reading digits from the left: one more, the end, and why a digit that is refused refuses the whole text.
 -- Assumes nothing.
-use Rattle.std.proofs.Common.{◌≡◌, ℕ, zero, suc, ◌+◌, ◌*◌, ◌^◌, ◌<◌, ◌≤◌, Bool, false, cond, eqb, List, [], ◌∷◌, length, get_or, take, drop, Some, None, decimal, Option, sym, refl, ap, ◌∙◌, subst, arith}
+use Rattle.std.proofs.Common.{◌≡◌, ℕ, zero, suc, ◌+◌, ◌-◌, ◌*◌, ◌^◌, ◌<◌, ◌≤◌, Bool, true, false, cond, eqb, List, [], ◌∷◌, length, get_or, take, drop, Some, None, decimal, Option, sym, refl, ap, ◌∙◌, subst, arith, length-drop}
 use Rattle.std.proofs.lemmas.Fmt.{decimal_is_IsNumeral}
 use Rattle.std.proofs.lemmas.Int.Digits.{digits_more, digits_value_more}
+use Rattle.std.proofs.lemmas.List.{take_all}
 use Rattle.std.proofs.lemmas.Str.Parse.{digits_value-take-le}
 use Rattle.std.proofs.lemmas.Bool.{and_right, ne_eqb}
 use Rattle.std.specs.Str.Parse.{AllDigits, IsNumeral, digits_value}
@@ -34,7 +35,20 @@ module _ (radix : ℕ) (some : 1 ≤ radix) (ds : List ℕ) (i n : ℕ) (h : i <
       let whole : digits_value radix (take (i + 1) ds) ≤ digits_value radix ds = digits_value-take-le radix ds (i + 1) some in
       no_more (digit_of radix ds i numeral.1 h) (omega (arith, more, whole))
 
+-- the whole text is read
+pub read_all : (radix : ℕ) (ds : List ℕ) (i n : ℕ) → length ds ≤ i → 0 < length ds
+    → (n ≡ digits_value radix (take i ds)) × AllDigits radix (take i ds) × (n < 2 ^ 64) → ReadsDigits radix ds (Some n)
+read_all radix ds i n h some so_far =
+    let whole : take i ds ≡ ds = take_all i ds h in
+    ((some, subst (AllDigits radix) whole so_far.1), so_far.2, so_far.0 ∙ ap (digits_value radix) whole)
+
 -- ---- the mark `0x`
+
+-- the digits after the mark are read to the base 16
+pub parsed_marked : (cs : List ℕ) (r : Option ℕ) → marked cs ≡ true → ReadsDigits 16 (take (length cs - 2) (drop 2 cs)) r → Parsed cs r
+parsed_marked cs r mark reads =
+    subst (λ (b : Bool). cond b (ReadsDigits 16 (drop 2 cs) r) (ReadsDigits 10 cs r)) (sym mark)
+    (subst (λ (ds : List ℕ). ReadsDigits 16 ds r) (take_all (length cs - 2) (drop 2 cs) (simp length-drop (omega arith))) reads)
 
 -- the letter x is no decimal digit
 no_mark : (cs : List ℕ) → AllDigits 10 cs → marked cs ≡ false
