@@ -3,7 +3,7 @@ use Rattle.std.proofs.Common.{◌≡◌, ℕ, zero, suc, ◌+◌, ◌-◌, ◌*�
 use borrow.Rule.Slice.PartMut.{put_mid}
 use Rattle.std.proofs.lemmas.List.{ext_get_or, get_or-drop, get_or-take, length-take, length-drop, places, get_or_at, get_or-append_right, length-append}
 use Rattle.std.proofs.lemmas.Bool.{cases_lt, cases_order, cond-false, cond-true, eq-eqb, le-ltb, lt-ltb, ne_eqb}
-pub use Rattle.suite.proofs.Words.{bytes_are, word_is}
+pub use Rattle.suite.proofs.Words.{bytes_are, sum8, word_is}
 use Rattle.suite.specs.Words.{bytes_of, word}
 use Rattle.aead.specs.Bytes.{byte_at, padded, block}
 

@@ -1,3 +1,4 @@
 mod Digits
+mod Filled
 mod Numerals
 mod RoundTrip

@@ -1,13 +1,15 @@
-use Rattle.std.proofs.Common.{◌≡◌, ◌+◌, ◌*◌, ◌/◌, length, arith}
-use Rattle.std.proofs.lemmas.List.Edits.{fill_by_more}
+use Rattle.std.proofs.Common.{ℕ, ◌+◌, ◌*◌, ◌/◌, length, ap₂, arith}
 use Rattle.std.proofs.lemmas.List.FromFn.{fill_by_all}
 use Rattle.hexadecimal.specs.Hexadecimal.{byte_at}
+use Rattle.hexadecimal.proofs.Filled.{fill_more}
 use Rattle.hexadecimal.proofs.decoding.write_bytes.Goals as goal
 
 pub loop-k-preserved : goal.loop-k-preserved
 loop-k-preserved c =
-    let e : c.value.result * 16 + c.value-in-loop-k.result ≡ byte_at c.args.text.now c.loop-k.k = cc in
-    rw e (fill_by_more (byte_at c.args.text.now) c.loop-k.bytes c.loop-k.k 0 (omega arith) c.loop-k.invariant)
+    fill_more (byte_at c.args.text.now) c.loop-k.bytes c.loop-k.k (c.value.result * 16 + c.value-in-loop-k.result)
+    (omega arith)
+    (ap₂ (λ (x y : ℕ). x * 16 + y) c.value.ensures.value_is c.value-in-loop-k.ensures.value_is)
+    c.loop-k.invariant
 
 pub returns : goal.returns
 returns c = record {
