@@ -3,7 +3,7 @@ use crate::bench::{Bench, permute};
 use crate::command::{AeadJob, BenchCommand, DigestJob};
 use crate::digests::{Digest, digest_once};
 use crate::shown::{Five, Refusal, Told, UNWRITTEN, digits};
-use aead::{open, seal};
+use aead::{Context, Joined, open, seal};
 use engine::Engine;
 use permutation::State;
 use suite::SuiteFault;
@@ -56,14 +56,23 @@ fn run_permute(
     Ok(())
 }
 
+// What a job's text is sealed under.
+fn context(job: &AeadJob) -> Context<'_> {
+    Context {
+        key: &job.key,
+        nonce: &job.nonce,
+        data: Joined {
+            front: job.front.as_slice(),
+            back: job.back.as_slice(),
+        },
+    }
+}
+
 fn seal_text(rt: &HostRuntime, bench: &mut Bench, job: &AeadJob) -> anyhow::Result<()> {
     let mut output = vec![in rt.alloc(); UNWRITTEN; job.room]?;
     let result = seal(
         &mut bench.engine,
-        &job.key,
-        &job.nonce,
-        job.front.as_slice(),
-        job.back.as_slice(),
+        &context(job),
         job.text.as_slice(),
         output.as_mut_slice(),
     );
@@ -74,10 +83,7 @@ fn open_text(rt: &HostRuntime, bench: &mut Bench, job: &AeadJob) -> anyhow::Resu
     let mut output = vec![in rt.alloc(); UNWRITTEN; job.room]?;
     let result = open(
         &mut bench.engine,
-        &job.key,
-        &job.nonce,
-        job.front.as_slice(),
-        job.back.as_slice(),
+        &context(job),
         job.text.as_slice(),
         output.as_mut_slice(),
     );
