@@ -4,9 +4,16 @@ use borrow.Rule.Slice.PartMut.{put_mid}
 use Rattle.std.proofs.lemmas.List.{length-append, take_at, drop_at, drop-drop, drop_all, append-nil, length-drop}
 use Rattle.engine.specs.Meaning.{permuted}
 use Rattle.suite.specs.Words.{bytes_of}
+use Rattle.std.proofs.lemmas.Bool.Decides.{nat_tests}
 use Rattle.aead.specs.Bytes.{block}
+use Rattle.aead.specs.Cipher.{data_blocks}
 use Rattle.aead.specs.Blocks.{absorbed, rate, after_blocks, sealed_blocks}
 use Rattle.aead.proofs.Bytes.{block_behind}
+
+-- a block of associated data that is absorbed begins at its end or before
+pub blocks_few : (size : ℕ) → 16 * data_blocks size ≤ size + 16
+unfolding data_blocks
+blocks_few size = grind (arith, nat_tests)
 
 pub length_rate : (ws : List ℕ) → length (rate ws) ≡ 16
 unfolding rate bytes_of

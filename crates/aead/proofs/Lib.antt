@@ -1,7 +1,7 @@
 mod Blocks
 mod Bytes
 mod CallLaws
-mod Chains
+mod InTurn
 mod Inverse
 mod Made
 mod Opens
@@ -9,4 +9,5 @@ mod Outcomes
 mod Parts
 mod Published
 mod Same
+mod Seals
 mod Xor

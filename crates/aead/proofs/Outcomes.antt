@@ -9,7 +9,7 @@ use Rattle.suite.specs.Facts.{stamped}
 use Rattle.suite.specs.declared.fault.SuiteFault.{SuiteFault}
 use Rattle.suite.specs.declared.fault.SuiteFault.TheVariants.{Engine, InputTooLong, OutputTooShort, TagMissing, TagMismatch}
 use Rattle.aead.specs.Bytes.{same}
-use Rattle.aead.specs.Calls.{Outcome, accepted, cleared, lifted, long, opening, out_of_runs, sealing, settled, verified}
+use Rattle.aead.specs.Calls.{Outcome, accepted, cleared, long, opening, out_of_runs, sealing, settled, verified}
 use Rattle.aead.specs.Cipher.{cost, sealed, tag_of, unsealed}
 
 -- ---- the end of a call
@@ -38,6 +38,11 @@ module _ (runs n k : ℕ) (out : List ℕ) (m : Meaning) (res : Result (Unit {0}
       engine_left
 
 -- ---- sealing
+
+-- an engine's refusal as one of the suite, the runs not yet put in
+abbrev pub lifted : {X : Type 0} → Result X EngineFault → Result X SuiteFault
+lifted (Ok x) = Ok x
+lifted (Err e) = Err (Engine e 0)
 
 module _ (key nonce ad text out : List ℕ) (m : Meaning) where
   pub seals_long : long (length ad) (length text) ≡ true → sealing key nonce ad text out m ≡ (Err InputTooLong, out, m)

@@ -66,7 +66,7 @@ fn initialize<E: Engine>(engine: &mut E, key: &Block, nonce: &Block) -> Result<(
 }
 
 // Absorbs all blocks of associated data, with run 8 after each.
-#[tactic(auto, using(crate::proofs::Chains::blocks_few))]
+#[tactic(auto, using(crate::proofs::Blocks::blocks_few))]
 fn absorb_blocks<E: Engine>(engine: &mut E, parts: &Joined<'_>) -> Result<(), EngineFault>
     ensures paid_or_refused { result
         ≡ paid (data_blocks (length (joined parts.now))) (meaning E.Engine engine.old) tt }

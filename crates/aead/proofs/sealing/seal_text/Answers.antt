@@ -3,7 +3,7 @@ use Rattle.engine.proofs.Spending.{ok_same}
 use Rattle.engine.specs.Meaning.{Meaning}
 use Rattle.aead.specs.Blocks.{absorbed, sealed_blocks}
 use Rattle.aead.proofs.Blocks.{length_covered, rest_block, rest_written}
-use Rattle.aead.proofs.Chains.{after_text_is, ciphertext_is}
+use Rattle.aead.proofs.Seals.{after_text_is, ciphertext_is}
 use Rattle.std.proofs.lemmas.List.{length-drop, length-take}
 use Rattle.aead.proofs.sealing.seal_text.Goals as goal
 

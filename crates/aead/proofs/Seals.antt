@@ -1,15 +1,10 @@
--- The steps of a call as chains of mixes and runs.
-use Rattle.std.proofs.Common.{◌≡◌, ℕ, ◌+◌, ◌-◌, ◌*◌, ◌/◌, ◌≤◌, List, ◌++◌, length, take, sym, ap, ◌∙◌, add-one, arith}
-use lib.Seq.{take-append-add}
-use Rattle.std.proofs.lemmas.Bool.Decides.{nat_tests}
+-- A whole text sealed: the words after it, its ciphertext and its tag.
+use Rattle.std.proofs.Common.{◌≡◌, ℕ, ◌+◌, ◌-◌, ◌*◌, ◌/◌, List, ◌++◌, length, take, sym, ap, ◌∙◌, add-one, arith}
+use Rattle.std.proofs.Math.Seq.{take-append-add}
 use Rattle.aead.specs.Bytes.{block}
 use Rattle.aead.specs.Blocks.{absorbed, rate, after_blocks, sealed_blocks, after_text, ciphertext}
-use Rattle.aead.specs.Cipher.{data_blocks, ready, ended, tag_at, tag_of}
+use Rattle.aead.specs.Cipher.{ready, ended, tag_at, tag_of}
 use Rattle.aead.proofs.Blocks.{length_covered}
-
-pub blocks_few : (size : ℕ) → 16 * data_blocks size ≤ size + 16
-unfolding data_blocks
-blocks_few size = grind (arith, nat_tests)
 
 -- the rest of a text absorbed
 pub after_text_is : (ws text v b e : List ℕ) → v ≡ after_blocks (length text / 16) ws text → b ≡ block text (length text / 16) → e ≡ absorbed v b → e ≡ after_text ws text
