@@ -39,6 +39,7 @@ impl Joined<'_> {
     }
 
     // Block `index`.
+    #[tactic(auto, using(crate::proofs::Bytes::block_front, std::proofs::lemmas::List::take_rest))]
     pub(crate) fn block(&self, index: usize) -> Block
         requires within { 16 * index ≤ length (joined self.now) }
         ensures block_is { result ≡ block_of (joined self.now) index }

@@ -18,6 +18,7 @@ use engine::{Engine, EngineFault, completed_runs};
 use suite::SuiteFault;
 
 // XORs at most sixteen bytes with those of w0 and w1.
+#[tactic(auto, using(crate::proofs::Xor::xored_more), unfolding(crate::specs::Bytes::xored))]
 fn uncover(mask: &Block, bytes: &mut [u8])
     requires few { length bytes.old ≤ 16 }
     ensures bytes_xored { bytes.new ≡ xored bytes.old mask.now }

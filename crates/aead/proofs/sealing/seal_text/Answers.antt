@@ -3,15 +3,9 @@ use Rattle.engine.proofs.Spending.{ok_same}
 use Rattle.engine.specs.Meaning.{Meaning}
 use Rattle.aead.specs.Blocks.{absorbed, sealed_blocks}
 use Rattle.aead.proofs.Blocks.{length_covered, rest_block, rest_written}
-use Rattle.aead.proofs.Seals.{after_text_is, ciphertext_is}
+use Rattle.aead.proofs.Seals.{ciphertext_is}
 use Rattle.std.proofs.lemmas.List.{length-drop, length-take}
 use Rattle.aead.proofs.sealing.seal_text.Goals as goal
-
-pub returns-clause-text_absorbed : goal.returns-clause-text_absorbed
-returns-clause-text_absorbed g c =
-    after_text_is (g.E.Engine.words c.args.engine.now) c.args.text.now _ _ _ c.in_ok-seal_blocks.ensures.blocks_absorbed
-    (rest_block _ c.args.text.now c.seal_blocks.new.text (omega arith) c.in_ok-seal_blocks.ensures.blocks_written)
-    (ap (λ (x : Meaning). x.words) c.absorb_rest.ensures.rest_mixed)
 
 pub returns-clause-ciphertext_written : goal.returns-clause-ciphertext_written
 returns-clause-ciphertext_written g c =

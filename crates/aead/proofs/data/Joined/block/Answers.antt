@@ -1,20 +1,10 @@
-use Rattle.std.proofs.Common.{ℕ, ◌*◌, ◌+◌, get_or, take, sym, ap, ◌∙◌, arith, rules}
-use Rattle.std.proofs.lemmas.List.{ext_get_or, length-drop, length-take, take_rest}
+use Rattle.std.proofs.Common.{ℕ, ◌*◌, ◌+◌, get_or, sym, ◌∙◌, arith, rules}
+use Rattle.std.proofs.lemmas.List.{ext_get_or}
 use Rattle.aead.specs.Bytes.{padded}
 use Rattle.aead.specs.Data.{joined}
-use Rattle.aead.proofs.Bytes.{block_front, get_or_block, length_block}
+use Rattle.aead.proofs.Bytes.{get_or_block, length_block}
 use Rattle.aead.proofs.Made.{made_by}
 use Rattle.aead.proofs.data.Joined.block.Goals as goal
-
-pub returns : goal.returns
-returns c =
-    let front = c.args.self.now.front.now in
-    let h = c.in-Some.ensures.cases in
-    let room = simp (length-take, length-drop) at h.enough in
-    record {
-      block_is =
-          h.same ∙ ap (take 16) (take_rest front (16 * c.args.index)) ∙ sym (block_front front c.args.self.now.back.now c.args.index (omega arith));
-    }
 
 pub returns-2 : goal.returns-2
 returns-2 c =
