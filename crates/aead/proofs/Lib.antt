@@ -1,7 +1,6 @@
 mod Blocks
 mod Bytes
 mod CallLaws
-mod InTurn
 mod Inverse
 mod Made
 mod Opens

@@ -23,12 +23,12 @@ module _ (runs n k : ℕ) (out : List ℕ) (m : Meaning) (res : Result (Unit {0}
   engine_left : z ≡ after runs zero_words m
   engine_left = clear ∙ ap wiped spent
 
-  pub ended_ok : (new : List ℕ) → res ≡ Ok tt → o₁ ≡ new → ◌≡◌ {A = Outcome} (r, o₂ ++ drop n out, z) (accepted runs n new out m)
+  ended_ok : (new : List ℕ) → res ≡ Ok tt → o₁ ≡ new → ◌≡◌ {A = Outcome} (r, o₂ ++ drop n out, z) (accepted runs n new out m)
   ended_ok new is e =
       three (answer ∙ ap (settled k (length o₁)) is ∙ ap Ok long')
       (ap (λ (x : List ℕ). x ++ drop n out) (written ∙ ap (λ (x : Result (Unit {0}) SuiteFault). cond (is_ok x) o₁ (replicate (length o₁) 0)) is ∙ e)) engine_left
 
-  pub ended_err : (e fault : SuiteFault) → res ≡ Err e → stamped k e ≡ fault
+  ended_err : (e fault : SuiteFault) → res ≡ Err e → stamped k e ≡ fault
       → ◌≡◌ {A = Outcome} (r, o₂ ++ drop n out, z) (cleared runs n fault out m)
   ended_err e fault is stamp =
       three (answer ∙ ap (settled k (length o₁)) is ∙ ap Err stamp)

@@ -37,7 +37,7 @@ fn seal_blocks<E: Engine>(engine: &mut E, text: &mut [u8]) -> Result<(), EngineF
 }
 
 // Seals a text where it stands: its whole blocks, and then the padded rest with no run.
-#[tactic(auto, using(crate::proofs::Blocks::rest_block, crate::proofs::Seals::after_text_is))]
+#[tactic(auto, using(crate::proofs::Blocks::rest_block, crate::proofs::Seals::after_text_is, crate::proofs::Seals::ciphertext_is))]
 fn seal_text<E: Engine>(engine: &mut E, text: &mut [u8]) -> Result<(), EngineFault>
     ensures paid_or_refused { result ≡ paid (length text.old / 16) (meaning E.Engine engine.old) tt }
     ensures text_absorbed { OnOk result (E.words engine.new
@@ -57,6 +57,7 @@ fn seal_text<E: Engine>(engine: &mut E, text: &mut [u8]) -> Result<(), EngineFau
 }
 
 // All the steps of sealing, on a text where it stands. The answer is its tag.
+#[tactic(auto, using(engine::proofs::Spending::next, engine::proofs::Spending::next_spent, engine::proofs::Spending::refused, crate::proofs::Seals::tag_is), unfolding(crate::specs::Cipher::cost))]
 fn seal_in_place<E: Engine>(
     engine: &mut E,
     context: &Context<'_>,
