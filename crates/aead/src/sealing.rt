@@ -77,6 +77,7 @@ fn seal_in_place<E: Engine>(
 }
 
 // The same, into an output of just the right length.
+// Kept: `len`, since where the output is cut in two in `seal` itself, a refusal can't be handed on by `?` past the clearing.
 #[tactic(auto, using(engine::proofs::Spending::paid_value), unfolding(crate::specs::Cipher::sealed))]
 fn seal_into<E: Engine>(
     engine: &mut E,
