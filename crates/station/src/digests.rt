@@ -36,7 +36,6 @@ pub fn start_session<E: Engine>(
 ) -> Absorbing<E>
     ensures started_or_stopped { absorbing_of E.Engine result
         ≡ starting (function_of digest custom.entry.bytes.now) (meaning E.Engine engine) }
-    ensures same_lender { E.lender result.engine ≡ E.lender engine }
 {
     match digest {
         Digest::Hash256 => Absorbing::hash256(engine),

@@ -9,10 +9,9 @@ use engine::Engine;
 // An engine with its words cleared.
 fn cleared<E: Engine>(engine: E) -> E
     ensures words_zero { meaning E.Engine result ≡ wiped (meaning E.Engine engine) }
-    ensures same_lender { E.lender result ≡ E.lender engine }
 {
     let mut engine = engine;
-    engine.load(0, 0, 0, 0, 0);
+    engine.load([0; 5]);
     engine
 }
 
@@ -20,7 +19,6 @@ impl<E: Engine> Absorbing<E> {
     // Gives the engine back with zero words.
     pub fn end(self) -> E
         ensures words_zero { meaning E.Engine result ≡ wiped (meaning E.Engine self.engine) }
-        ensures same_lender { E.lender result ≡ E.lender self.engine }
     {
         let Absorbing {
             engine: absorbing,
@@ -37,7 +35,6 @@ impl<E: Engine> Squeezing<E> {
     // Gives the engine back with zero words.
     pub fn end(self) -> E
         ensures words_zero { meaning E.Engine result ≡ wiped (meaning E.Engine self.engine) }
-        ensures same_lender { E.lender result ≡ E.lender self.engine }
     {
         let Squeezing {
             engine: squeezing,

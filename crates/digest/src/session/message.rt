@@ -17,7 +17,6 @@ impl<E: Engine> Absorbing<E> {
     pub fn absorb(&mut self, piece: &[u8]) -> Result<(), SuiteFault>
         ensures absorbed_or_refused { (result, absorbing_of E.Engine self.new)
             ≡ absorbing_piece piece.now (absorbing_of E.Engine self.old) }
-        ensures same_lender { E.lender self.new.engine ≡ E.lender self.old.engine }
         ensures pieces_join { PiecesJoin }
         ensures known_values { KnownValues }
     {
@@ -27,7 +26,6 @@ impl<E: Engine> Absorbing<E> {
     fn take(&mut self, piece: &[u8]) -> Result<(), SuiteFault>
         ensures absorbed_or_refused { (result, absorbing_of E.Engine self.new)
             ≡ absorbing_piece piece.now (absorbing_of E.Engine self.old) }
-        ensures same_lender { E.lender self.new.engine ≡ E.lender self.old.engine }
     {
         self.admit(piece.len())?;
         let runs = completed_runs(&self.engine);
@@ -47,9 +45,8 @@ impl<E: Engine> Absorbing<E> {
     pub(crate) fn stop(&mut self)
         ensures nothing_kept { absorbing_of E.Engine self.new
             ≡ stopped_taking self.old.limit (wiped (meaning E.Engine self.old.engine)) }
-        ensures same_lender { E.lender self.new.engine ≡ E.lender self.old.engine }
     {
-        self.engine.load(0, 0, 0, 0, 0);
+        self.engine.load([0; 5]);
         self.block = Block::empty();
         self.taken = 0;
         self.stopped = true;
@@ -58,7 +55,6 @@ impl<E: Engine> Absorbing<E> {
     // Mixes in the padded rest, and turns to output.
     pub fn finish(self) -> Squeezing<E>
         ensures rest_mixed_unless_stopped { squeezing_of E.Engine result ≡ finishing (absorbing_of E.Engine self) }
-        ensures same_lender { E.lender result.engine ≡ E.lender self.engine }
     {
         let Absorbing {
             engine,

@@ -25,7 +25,6 @@ fn squeeze_bytes<E: Engine>(engine: &mut E, given: usize, out: &mut [u8]) -> Res
         ≡ bytes_next (length out.old) (E.words engine.old) given) }
     ensures runs_spent { meaning E.Engine engine.new
         ≡ after (runs_to given (given + length out.old)) (E.words engine.new) (meaning E.Engine engine.old) }
-    ensures same_lender { E.lender engine.new ≡ E.lender engine.old }
 {
     for i in 0..out.len() {
         out[i] = squeeze_byte(engine, given + i)?;
@@ -39,7 +38,6 @@ impl<E: Engine> Squeezing<E> {
     pub fn squeeze(&mut self, out: &mut [u8]) -> Result<(), SuiteFault>
         ensures squeezed_or_refused { (result, out.new, squeezing_of E.Engine self.new)
             ≡ squeezing_piece out.old (squeezing_of E.Engine self.old) }
-        ensures same_lender { E.lender self.new.engine ≡ E.lender self.old.engine }
         ensures outputs_join { OutputsJoin }
         ensures whole_digest { WholeDigest }
         ensures cost_formulas { CostFormulas }
@@ -51,7 +49,6 @@ impl<E: Engine> Squeezing<E> {
     fn give(&mut self, out: &mut [u8]) -> Result<(), SuiteFault>
         ensures squeezed_or_refused { (result, out.new, squeezing_of E.Engine self.new)
             ≡ squeezing_piece out.old (squeezing_of E.Engine self.old) }
-        ensures same_lender { E.lender self.new.engine ≡ E.lender self.old.engine }
     {
         self.admit(out.len())?;
         let runs = completed_runs(&self.engine);
@@ -72,9 +69,8 @@ impl<E: Engine> Squeezing<E> {
     fn stop(&mut self)
         ensures nothing_kept { squeezing_of E.Engine self.new
             ≡ stopped_giving self.old.limit (wiped (meaning E.Engine self.old.engine)) }
-        ensures same_lender { E.lender self.new.engine ≡ E.lender self.old.engine }
     {
-        self.engine.load(0, 0, 0, 0, 0);
+        self.engine.load([0; 5]);
         self.given = 0;
         self.stopped = true;
     }

@@ -28,7 +28,6 @@ impl<E: Engine> Absorbing<E> {
     // A session of Ascon-Hash256, whose output has at most 32 bytes.
     pub fn hash256(engine: E) -> Absorbing<E>
         ensures started_or_stopped { absorbing_of E.Engine result ≡ starting HASH256 (meaning E.Engine engine) }
-        ensures same_lender { E.lender result.engine ≡ E.lender engine }
     {
         let mut engine = engine;
         let started = initialize(&mut engine, HASH256_START);
@@ -38,7 +37,6 @@ impl<E: Engine> Absorbing<E> {
     // A session of Ascon-XOF128.
     pub fn xof128(engine: E) -> Absorbing<E>
         ensures started_or_stopped { absorbing_of E.Engine result ≡ starting XOF128 (meaning E.Engine engine) }
-        ensures same_lender { E.lender result.engine ≡ E.lender engine }
     {
         let mut engine = engine;
         let started = initialize(&mut engine, XOF128_START);
@@ -49,7 +47,6 @@ impl<E: Engine> Absorbing<E> {
     pub fn cxof128(engine: E, custom: Customization<'_>) -> Absorbing<E>
         ensures started_or_stopped { absorbing_of E.Engine result
             ≡ starting (CXOF128 custom.entry.bytes.now) (meaning E.Engine engine) }
-        ensures same_lender { E.lender result.engine ≡ E.lender engine }
     {
         let mut engine = engine;
         let started = customize(&mut engine, CXOF128_START, custom);
@@ -61,7 +58,6 @@ impl<E: Engine> Absorbing<E> {
         requires output_bounded { limit ≤ 16777216 }
         ensures ready_or_stopped { absorbing_of E.Engine result
             ≡ (if is_ok started then taking limit [] 0 (meaning E.Engine engine) else stopped_taking limit (wiped (meaning E.Engine engine))) }
-        ensures same_lender { E.lender result.engine ≡ E.lender engine }
     {
         let mut session = Absorbing {
             engine,

@@ -1,4 +1,4 @@
-use Rattle.std.proofs.Common.{◌≡◌, ℕ, ◌+◌, ◌≤◌, List, [], ◌∷◌, ◌++◌, get_or, take, sym, refl, ap, ◌∙◌, subst, rules}
+use Rattle.std.proofs.Common.{◌≡◌, ℕ, ◌+◌, ◌≤◌, List, [], ◌∷◌, ◌++◌, get_or, take, sym, ap, ◌∙◌, subst, rules}
 use Rattle.engine.proofs.Spending.{afforded, none_made, refused}
 use Rattle.engine.specs.Meaning.{Meaning}
 use Rattle.engine.specs.Of.{meaning}
@@ -13,7 +13,7 @@ use Rattle.sponge.proofs.absorbing.absorb_bytes.Goals as goal
 
 pub loop-byte-init : goal.loop-byte-init
 loop-byte-init g c =
-    (taken_start (meaning g.E.Engine c.args.engine.now) (part_of c.args.block.now) (part_short c.args.block.now), refl)
+    taken_start (meaning g.E.Engine c.args.engine.now) (part_of c.args.block.now) (part_short c.args.block.now)
 
 pub returns-in_err-absorb_byte : goal.returns-in_err-absorb_byte
 returns-in_err-absorb_byte g c =
@@ -25,7 +25,7 @@ returns-in_err-absorb_byte g c =
     let i = c.loop-byte.byte-index in
     let xs = part ++ take i piece in
     let b = get_or piece i 0 in
-    let inv = c.loop-byte.invariant.0 in
+    let inv = c.loop-byte.invariant in
     let on : xs ++ b ∷ [] ≡ part ++ take (i + 1) piece = one_more part piece i c.loop-byte-test.true in
     let le : whole_blocks (xs ++ b ∷ []) ≤ whole_blocks (part ++ piece) =
     rw on (front_blocks part piece (i + 1))
@@ -40,7 +40,6 @@ returns-in_err-absorb_byte g c =
       piece_absorbed = t.1;
       rest_kept = none_made c.from_residual.result _ back;
       runs_spent = t.2;
-      same_lender = c.absorb_byte.ensures.same_lender ∙ c.loop-byte.invariant.1;
     }
 
 pub loop-byte-preserved : goal.loop-byte-preserved
@@ -52,13 +51,11 @@ loop-byte-preserved g c =
     let piece = c.args.piece.now in
     let i = c.loop-byte.byte-index in
     let rest = part_of c.absorb_byte.new.block in
-    let done = c.in_ok-absorb_byte.ensures in (
-      subst (λ (xs : List ℕ). Taken m xs z rest) (one_more part piece i c.loop-byte-test.true)
-          (taken_more m (part ++ take i piece) y (part_of c.loop-byte.block) c.loop-byte.invariant.0 (get_or piece i 0 ∷ []) z rest _ _
-          c.absorb_byte.ensures.paid_or_refused c.in_ok-absorb_byte.was c.absorb_byte.ensures.runs_spent
-          done.byte_absorbed done.rest_kept),
-      c.absorb_byte.ensures.same_lender ∙ c.loop-byte.invariant.1,
-    )
+    let done = c.in_ok-absorb_byte.ensures in
+    subst (λ (xs : List ℕ). Taken m xs z rest) (one_more part piece i c.loop-byte-test.true)
+    (taken_more m (part ++ take i piece) y (part_of c.loop-byte.block) c.loop-byte.invariant (get_or piece i 0 ∷ []) z rest _ _
+    c.absorb_byte.ensures.paid_or_refused c.in_ok-absorb_byte.was c.absorb_byte.ensures.runs_spent
+    done.byte_absorbed done.rest_kept)
 
 pub returns : goal.returns
 returns g c =
@@ -70,7 +67,7 @@ returns g c =
     ap (λ (x : List ℕ). part ++ x) (take_all c.loop-byte.byte-index piece (search rules))
     in
     let t : Taken m (part ++ piece) z (part_of c.loop-byte.block) =
-    subst (λ (xs : List ℕ). Taken m xs z (part_of c.loop-byte.block)) all c.loop-byte.invariant.0
+    subst (λ (xs : List ℕ). Taken m xs z (part_of c.loop-byte.block)) all c.loop-byte.invariant
     in
     let words_are = ap (λ (x : Meaning). x.words) t.engine_is in
     record {
@@ -78,5 +75,4 @@ returns g c =
       piece_absorbed = words_are;
       rest_kept = t.rest_is;
       runs_spent = t.engine_is ∙ ap (λ (ws : List ℕ). after (whole_blocks (part ++ piece)) ws m) (sym words_are);
-      same_lender = c.loop-byte.invariant.1;
     }

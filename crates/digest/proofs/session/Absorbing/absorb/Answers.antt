@@ -6,7 +6,6 @@ pub returns : goal.returns
 returns g c =
     record {
       absorbed_or_refused = c.take.ensures.absorbed_or_refused;
-      same_lender = c.take.ensures.same_lender;
       pieces_join = pieces_join;
       known_values = known_values;
     }

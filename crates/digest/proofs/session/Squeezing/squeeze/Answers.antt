@@ -7,7 +7,6 @@ pub returns : goal.returns
 returns g c =
     record {
       squeezed_or_refused = c.give.ensures.squeezed_or_refused;
-      same_lender = c.give.ensures.same_lender;
       outputs_join = outputs_join;
       whole_digest = whole_digest;
       cost_formulas = cost_formulas;

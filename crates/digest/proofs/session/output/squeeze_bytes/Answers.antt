@@ -10,7 +10,7 @@ use Rattle.digest.proofs.Giving.{Given, byte_more, given_more, given_paid, given
 use Rattle.digest.proofs.session.output.squeeze_bytes.Goals as goal
 
 pub loop-i-init : goal.loop-i-init
-loop-i-init g c = (given_start (meaning g.E.Engine c.args.engine.now) c.args.given, refl, refl)
+loop-i-init g c = (given_start (meaning g.E.Engine c.args.engine.now) c.args.given, refl)
 
 pub returns-in_err-out : goal.returns-in_err-out
 returns-in_err-out g c =
@@ -34,7 +34,6 @@ returns-in_err-out g c =
       words_run = t.1;
       bytes_given = none_made c.from_residual.result _ back;
       runs_spent = t.2;
-      same_lender = c.squeeze_byte.ensures.same_lender ∙ c.loop-i.invariant.2;
     }
 
 pub loop-i-preserved : goal.loop-i-preserved
@@ -50,7 +49,6 @@ loop-i-preserved g c =
       given_more m a i y c.loop-i.invariant.0 1 z (byte_at y.words (a + i) (a + i)) b c.squeeze_byte.result
           c.squeeze_byte.ensures.paid_or_refused c.in_ok-out.was c.squeeze_byte.ensures.runs_spent done.words_run,
       take_more_set c.loop-i.out i b (search rules) ∙ byte_more m a i y c.loop-i.invariant.0 b _ is c.loop-i.invariant.1,
-      c.squeeze_byte.ensures.same_lender ∙ c.loop-i.invariant.2,
     )
 
 pub returns : goal.returns
@@ -70,5 +68,4 @@ returns g c =
           ∙ c.loop-i.invariant.1
           ∙ ap (λ (j : ℕ). bytes_next j m.words a) all;
       runs_spent = t.engine_is ∙ ap (λ (ws : List ℕ). after (runs_to a (a + n)) ws m) (sym words_are);
-      same_lender = c.loop-i.invariant.2;
     }
