@@ -5,7 +5,7 @@ ghost use Rattle.sponge.specs.Sponge.{padded};
 ghost use Rattle.suite.specs.Words.{word};
 
 // A block that is not yet whole: its first bytes are filled.
-#[derive(Drop)]
+#[derive(Clone, Copy)]
 pub struct Block {
     bytes: [u8; 8],
     filled: usize,

@@ -1,16 +1,17 @@
-// Ending a session, in either phase.
+// Ending a session, in either phase, and stopping one.
 ghost use Rattle.std.specs.Prelude.{◌≡◌};
 ghost use Rattle.engine.specs.Of.{meaning};
 ghost use Rattle.engine.specs.Runs.{wiped};
+ghost use Rattle.digest.specs.Phases.{stopped_giving, stopped_taking};
+ghost use Rattle.digest.specs.Sessions.{absorbing_of, squeezing_of};
 
 use crate::session::{Absorbing, Squeezing};
 use engine::Engine;
 
 // An engine with its words cleared.
-fn cleared<E: Engine>(engine: E) -> E
+fn cleared<E: Engine>(mut engine: E) -> E
     ensures words_zero { meaning E.Engine result ≡ wiped (meaning E.Engine engine) }
 {
-    let mut engine = engine;
     engine.load([0; 5]);
     engine
 }
@@ -22,12 +23,19 @@ impl<E: Engine> Absorbing<E> {
     {
         let Absorbing {
             engine: absorbing,
-            block: _,
-            taken: _,
+            message: _,
             limit: _,
-            stopped: _,
         } = self;
         cleared(absorbing)
+    }
+
+    // Nothing of the message stays in a stopped session.
+    pub(crate) fn stop(&mut self)
+        ensures nothing_kept { absorbing_of E.Engine self.new
+            ≡ stopped_taking self.old.limit (wiped (meaning E.Engine self.old.engine)) }
+    {
+        self.engine.load([0; 5]);
+        self.message = None;
     }
 }
 
@@ -40,8 +48,16 @@ impl<E: Engine> Squeezing<E> {
             engine: squeezing,
             given: _,
             limit: _,
-            stopped: _,
         } = self;
         cleared(squeezing)
+    }
+
+    // Nothing of the output stays in a stopped session.
+    pub(crate) fn stop(&mut self)
+        ensures nothing_kept { squeezing_of E.Engine self.new
+            ≡ stopped_giving self.old.limit (wiped (meaning E.Engine self.old.engine)) }
+    {
+        self.engine.load([0; 5]);
+        self.given = None;
     }
 }

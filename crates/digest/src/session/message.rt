@@ -1,15 +1,13 @@
 // Absorbing a message, piece by piece.
 ghost use Rattle.std.specs.Prelude.{◌≡◌};
-ghost use Rattle.engine.specs.Of.{meaning};
-ghost use Rattle.engine.specs.Runs.{wiped};
 ghost use Rattle.digest.specs.Laws.{PiecesJoin};
-ghost use Rattle.digest.specs.Phases.{absorbing as absorbing_piece, finishing, stopped_taking};
+ghost use Rattle.digest.specs.Phases.{absorbing as absorbing_piece, finishing};
 ghost use Rattle.digest.specs.Sessions.{absorbing_of, squeezing_of};
 ghost use Rattle.digest.specs.Values.{KnownValues};
 
 use crate::session::{Absorbing, Squeezing};
 use engine::{Engine, completed_runs};
-use sponge::{Block, absorb_bytes};
+use sponge::absorb_bytes;
 use suite::SuiteFault;
 
 impl<E: Engine> Absorbing<E> {
@@ -27,11 +25,15 @@ impl<E: Engine> Absorbing<E> {
         ensures absorbed_or_refused { (result, absorbing_of E.Engine self.new)
             ≡ absorbing_piece piece.now (absorbing_of E.Engine self.old) }
     {
-        self.admit(piece.len())?;
+        let Some(mut message) = self.message else {
+            return Err(SuiteFault::SessionStopped);
+        };
+        message.admit(piece.len())?;
         let runs = completed_runs(&self.engine);
-        match absorb_bytes(&mut self.engine, &mut self.block, piece) {
+        match absorb_bytes(&mut self.engine, &mut message.block, piece) {
             Ok(()) => {
-                self.taken += piece.len();
+                message.taken += piece.len();
+                self.message = Some(message);
                 Ok(())
             }
             Err(fault) => {
@@ -41,37 +43,26 @@ impl<E: Engine> Absorbing<E> {
         }
     }
 
-    // Nothing of the message stays in a stopped session.
-    pub(crate) fn stop(&mut self)
-        ensures nothing_kept { absorbing_of E.Engine self.new
-            ≡ stopped_taking self.old.limit (wiped (meaning E.Engine self.old.engine)) }
-    {
-        self.engine.load([0; 5]);
-        self.block = Block::empty();
-        self.taken = 0;
-        self.stopped = true;
-    }
-
     // Mixes in the padded rest, and turns to output.
     pub fn finish(self) -> Squeezing<E>
         ensures rest_mixed_unless_stopped { squeezing_of E.Engine result ≡ finishing (absorbing_of E.Engine self) }
     {
         let Absorbing {
-            engine,
-            block,
-            taken: _,
+            mut engine,
+            message,
             limit,
-            stopped,
         } = self;
-        let mut engine = engine;
-        if !stopped {
-            let _ = engine.mix(0, block.padded_word());
-        }
+        let given = match message {
+            Some(message) => {
+                let _ = engine.mix(0, message.block.padded_word());
+                Some(0)
+            }
+            None => None,
+        };
         Squeezing {
             engine,
-            given: 0,
+            given,
             limit,
-            stopped,
         }
     }
 }

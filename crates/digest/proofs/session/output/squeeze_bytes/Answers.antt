@@ -12,8 +12,8 @@ use Rattle.digest.proofs.session.output.squeeze_bytes.Goals as goal
 pub loop-i-init : goal.loop-i-init
 loop-i-init g c = (given_start (meaning g.E.Engine c.args.engine.now) c.args.given, refl)
 
-pub returns-in_err-out : goal.returns-in_err-out
-returns-in_err-out g c =
+pub returns-in_err-byte : goal.returns-in_err-byte
+returns-in_err-byte g c =
     let m = meaning g.E.Engine c.args.engine.now in
     let y = meaning g.E.Engine c.loop-i.engine in
     let z = meaning g.E.Engine c.squeeze_byte.new.engine in
@@ -26,7 +26,7 @@ returns-in_err-out g c =
     in
     let back = err_from_is_err_and c.from_residual.result c.from_residual.ensures.1 in
     let t = refused m z (runs_to a (a + (i + 1))) (runs_to a (a + n)) (byte_at y.words (a + i) (a + i)) tt _ _ c.from_residual.result _ back
-    c.in_err-out.was (given_paid m a i y c.loop-i.invariant.0 1 _ _ c.squeeze_byte.ensures.paid_or_refused)
+    c.in_err-byte.was (given_paid m a i y c.loop-i.invariant.0 1 _ _ c.squeeze_byte.ensures.paid_or_refused)
     (given_spent m a i y c.loop-i.invariant.0 1 z c.squeeze_byte.ensures.runs_spent) le
     in
     record {
@@ -43,11 +43,11 @@ loop-i-preserved g c =
     let z = meaning g.E.Engine c.squeeze_byte.new.engine in
     let a = c.args.given in
     let i = c.loop-i.i in
-    let b = c.in_ok-out.field-0 in
-    let done = c.in_ok-out.ensures in
+    let b = c.in_ok-byte.field-0 in
+    let done = c.in_ok-byte.ensures in
     let is : b ≡ byte_at y.words (a + i) (a + i) = paid_value (runs_to (a + i) (a + i + 1)) y b _ done.paid_or_refused in (
       given_more m a i y c.loop-i.invariant.0 1 z (byte_at y.words (a + i) (a + i)) b c.squeeze_byte.result
-          c.squeeze_byte.ensures.paid_or_refused c.in_ok-out.was c.squeeze_byte.ensures.runs_spent done.words_run,
+          c.squeeze_byte.ensures.paid_or_refused c.in_ok-byte.was c.squeeze_byte.ensures.runs_spent done.words_run,
       take_more_set c.loop-i.out i b (search rules) ∙ byte_more m a i y c.loop-i.invariant.0 b _ is c.loop-i.invariant.1,
     )
 
