@@ -12,18 +12,12 @@ use suite::SuiteFault;
 
 impl<E: Engine> Absorbing<E> {
     // Absorbs a message piece. Only the joined message counts. A session whose engine refuses a run is stopped.
+    #[tactic(auto, using(crate::proofs::PiecesJoin::pieces_join, crate::proofs::Published::known_values))]
     pub fn absorb(&mut self, piece: &[u8]) -> Result<(), SuiteFault>
         ensures absorbed_or_refused { (result, absorbing_of E.Engine self.new)
             ≡ absorbing_piece piece.now (absorbing_of E.Engine self.old) }
         ensures pieces_join { PiecesJoin }
         ensures known_values { KnownValues }
-    {
-        self.take(piece)
-    }
-
-    fn take(&mut self, piece: &[u8]) -> Result<(), SuiteFault>
-        ensures absorbed_or_refused { (result, absorbing_of E.Engine self.new)
-            ≡ absorbing_piece piece.now (absorbing_of E.Engine self.old) }
     {
         let Some(mut message) = self.message else {
             return Err(SuiteFault::SessionStopped);

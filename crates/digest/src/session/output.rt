@@ -35,6 +35,7 @@ fn squeeze_bytes<E: Engine>(engine: &mut E, given: usize, out: &mut [u8]) -> Res
 impl<E: Engine> Squeezing<E> {
     // Fills an output with the bytes that come next. Only the joined output counts. A session whose engine refuses a run is stopped, and
     // the output is zero.
+    #[tactic(auto, using(crate::proofs::OutputsJoin::outputs_join, crate::proofs::WholeSession::whole_digest, crate::proofs::WholeSession::cost_formulas, crate::proofs::Published::published_digest))]
     pub fn squeeze(&mut self, out: &mut [u8]) -> Result<(), SuiteFault>
         ensures squeezed_or_refused { (result, out.new, squeezing_of E.Engine self.new)
             ≡ squeezing_piece out.old (squeezing_of E.Engine self.old) }
@@ -42,13 +43,6 @@ impl<E: Engine> Squeezing<E> {
         ensures whole_digest { WholeDigest }
         ensures cost_formulas { CostFormulas }
         ensures published_digest { PublishedDigest }
-    {
-        self.give(out)
-    }
-
-    fn give(&mut self, out: &mut [u8]) -> Result<(), SuiteFault>
-        ensures squeezed_or_refused { (result, out.new, squeezing_of E.Engine self.new)
-            ≡ squeezing_piece out.old (squeezing_of E.Engine self.old) }
     {
         let Some(given) = self.given else {
             return Err(SuiteFault::SessionStopped);
