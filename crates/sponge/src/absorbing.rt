@@ -53,6 +53,7 @@ fn absorb_byte<E: Engine>(engine: &mut E, block: &mut Block, byte: u8) -> Result
 }
 
 // Places the bytes of a piece into the current block one after another.
+#[tactic(auto, using(crate::proofs::Taking::all_taken))]
 pub fn absorb_bytes<E: Engine>(
     engine: &mut E,
     block: &mut Block,
