@@ -7,13 +7,13 @@ pub returns-in_err-number : goal.returns-in_err-number
 returns-in_err-number c = record {
   number_written =
       subst (ReadsDigits c.args.radix c.args.digits.now) (sym c.from_residual.ensures)
-      (read_refused c.args.radix c.requires c.args.digits.now c.loop-digit.digit-index c.loop-digit.number
+      (read_refused c.args.radix (omega arith) c.args.digits.now c.loop-digit.digit-index c.loop-digit.number
       (omega arith) c.loop-digit.invariant.0 c.in_err-number.ensures.number_written);
 }
 
 pub loop-digit-preserved : goal.loop-digit-preserved
 loop-digit-preserved c =
-    read_more c.args.radix c.requires c.args.digits.now c.loop-digit.digit-index c.loop-digit.number (omega arith)
+    read_more c.args.radix (omega arith) c.args.digits.now c.loop-digit.digit-index c.loop-digit.number (omega arith)
     c.loop-digit.invariant.0 c.in_ok-number.number c.loop-digit.invariant.1 c.in_ok-number.ensures.number_written
 
 pub returns : goal.returns
