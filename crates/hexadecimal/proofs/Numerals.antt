@@ -2,7 +2,7 @@
 -- Assumes nothing.
 use Rattle.std.proofs.Common.{◌≡◌, ℕ, zero, suc, ◌+◌, ◌*◌, ◌^◌, ◌<◌, ◌≤◌, Bool, false, cond, eqb, List, [], ◌∷◌, length, get_or, take, drop, Some, None, decimal, Option, sym, refl, ap, ◌∙◌, subst, arith}
 use Rattle.std.proofs.lemmas.Fmt.{decimal_is_IsNumeral}
-use Rattle.std.proofs.lemmas.Int.Digits.{digits_value_more}
+use Rattle.std.proofs.lemmas.Int.Digits.{digits_more, digits_value_more}
 use Rattle.std.proofs.lemmas.Str.Parse.{digits_value-take-le}
 use Rattle.std.proofs.lemmas.Bool.{and_right, ne_eqb}
 use Rattle.std.specs.Str.Parse.{AllDigits, IsNumeral, digits_value}
@@ -23,6 +23,9 @@ read_refused radix ds i n some h so_far no_more numeral small =
     digits_value_more radix ds i h ∙ ap (λ (x : ℕ). x * radix + digit_value (get_or ds i 0)) (sym so_far)
     in
     no_more (digit_of radix ds i numeral.1 h) (omega (arith, more, digits_value-take-le radix ds (i + 1) some))
+
+-- one digit more, taken or refused
+pub ruleset reading = (digits_more, digits_value_more, read_refused)
 
 -- ---- the mark `0x`
 

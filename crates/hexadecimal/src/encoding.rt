@@ -29,7 +29,7 @@ fn write_digits(bytes: &[u8], text: &mut [u8])
 
 // The digit of a value, in lower case.
 fn digit(value: u8) -> u8
-    requires { value < 16 }
+    requires below_16 { value < 16 }
     ensures digit_is { result ≡ digit_char value }
 {
     char::from_digit(u32::from(value), 16).unwrap() as u8

@@ -14,7 +14,7 @@ pub fn parse_number(text: &[u8]) -> Option<u64>
 }
 
 // The number that digits write.
-#[tactic(auto, using(std::proofs::lemmas::Int::Digits::digits_more, std::proofs::lemmas::Int::Digits::digits_value_more, crate::proofs::Numerals::read_refused))]
+#[tactic(auto, using(crate::proofs::Numerals::reading))]
 fn parse_digits(digits: &[u8], radix: u32) -> Option<u64>
     requires two_or_more { 2 ≤ radix }
     requires at_most_16 { radix ≤ 16 }
