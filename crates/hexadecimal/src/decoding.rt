@@ -36,6 +36,7 @@ fn write_bytes(text: &[u8], bytes: &mut [u8])
     ensures all_bytes { bytes.new ≡ bytes_of text.now }
 {
     let (pairs, _) = text.as_chunks::<2>();
+    // Kept: a write by index, since nothing is known of `bytes` after `bytes.iter_mut().zip(pairs)`.
     for (k, [high, low]) in pairs.iter().enumerate() {
         bytes[k] = value(*high) * 16 + value(*low);
     }

@@ -21,6 +21,7 @@ fn write_digits(bytes: &[u8], text: &mut [u8])
     requires two_for_each { length text.old ≡ 2 * length bytes.now }
     ensures all_digits { text.new ≡ encoded bytes.now }
 {
+    // Kept: writes by index, since nothing is known of `text` after `text.as_chunks_mut::<2>()`.
     for (k, byte) in bytes.iter().enumerate() {
         text[2 * k] = digit(*byte / 16);
         text[2 * k + 1] = digit(*byte % 16);
