@@ -3,6 +3,7 @@ ghost use Rattle.std.specs.Prelude.{◌≤◌};
 ghost use Rattle.hexadecimal.specs.Numbers.{OneMore, Parsed, PrintedIsRead, ReadsDigits};
 
 // The number that a text writes, if it writes one below 2^64.
+#[tactic(auto, using(crate::proofs::Numerals::printing))]
 pub fn parse_number(text: &[u8]) -> Option<u64>
     ensures number_written { Parsed text.now result }
     ensures printed_is_read { PrintedIsRead text.now result }
