@@ -55,7 +55,7 @@ fn initialize<E: Engine>(engine: &mut E, key: &Block, nonce: &Block) -> Result<(
 {
     let k0 = low_word(key);
     let k1 = high_word(key);
-    engine.load(START, k0, k1, low_word(nonce), high_word(nonce));
+    engine.load([START, k0, k1, low_word(nonce), high_word(nonce)]);
     engine.run(12)?;
     engine.mix(3, k0)?;
     engine.mix(4, k1)?;
