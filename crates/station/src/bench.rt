@@ -11,6 +11,7 @@ use engine::{Engine, EngineFault};
 use engines::{ColumnEngine, WordEngine};
 use layers::{Either, Quota};
 use permutation::State;
+use std::array::from_fn;
 
 pub type Chosen = Either<WordEngine, ColumnEngine>;
 
@@ -70,22 +71,15 @@ fn pile(kind: Kind, quotas: Quotas) -> Pile
 pub fn five_words<E: Engine>(engine: &E) -> State
     ensures words_read { result ≡ five_read (E.words engine.now) }
 {
-    [
-        engine.read(0).unwrap(),
-        engine.read(1).unwrap(),
-        engine.read(2).unwrap(),
-        engine.read(3).unwrap(),
-        engine.read(4).unwrap(),
-    ]
+    from_fn(|place| engine.read(place).unwrap())
 }
 
 // Loads the words, makes one run, and reads the words again.
-pub fn permute<E: Engine>(engine: &mut E, rounds: usize, words: State) -> Result<State, EngineFault>
+pub fn permute<E: Engine>(engine: &mut E, rounds: usize, state: State) -> Result<State, EngineFault>
     ensures loaded_run_read { (result, meaning E.Engine engine.new)
-        ≡ permute_once rounds words (meaning E.Engine engine.old) }
+        ≡ permute_once rounds state (meaning E.Engine engine.old) }
 {
-    let [w0, w1, w2, w3, w4] = words;
-    engine.load(w0, w1, w2, w3, w4);
+    engine.load(state);
     engine.run(rounds)?;
     Ok(five_words(engine))
 }

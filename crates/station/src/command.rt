@@ -1,8 +1,10 @@
 // The commands.
 use crate::digests::Digest;
-use aead::Block;
+use crate::line::Reason;
+use aead::{Block, Context, Joined};
 use permutation::State;
 use std::fmt;
+use std::str::FromStr;
 
 // Which engine computes.
 #[derive(Clone, Copy)]
@@ -17,6 +19,18 @@ impl fmt::Display for Kind {
             Kind::Word => "word",
             Kind::Column => "column",
         })
+    }
+}
+
+impl FromStr for Kind {
+    type Err = Reason;
+
+    fn from_str(word: &str) -> Result<Kind, Reason> {
+        match word {
+            "word" => Ok(Kind::Word),
+            "column" => Ok(Kind::Column),
+            _ => Err(Reason::UnknownWord),
+        }
     }
 }
 
@@ -39,12 +53,23 @@ pub struct AeadJob {
     pub room: usize,
 }
 
-// A message to digest in one call, with an output of `room` bytes. The customization is as it was typed, perhaps too long, and empty for a
-// function that takes none.
+impl AeadJob {
+    pub fn context(&self) -> Context<'_> {
+        Context {
+            key: &self.key,
+            nonce: &self.nonce,
+            data: Joined {
+                front: self.front.as_slice(),
+                back: self.back.as_slice(),
+            },
+        }
+    }
+}
+
+// A message to digest in one call, with an output of `room` bytes.
 #[derive(Drop)]
 pub struct DigestJob {
     pub digest: Digest,
-    pub custom: Vec<u8>,
     pub message: Vec<u8>,
     pub room: usize,
 }
@@ -73,7 +98,7 @@ pub enum SessionCommand {
 #[derive(Drop)]
 pub enum Command {
     Bench(BenchCommand),
-    // Opens a session, with a customization as in a `DigestJob`.
-    Start(Digest, Vec<u8>),
+    // Opens a session.
+    Start(Digest),
     Session(SessionCommand),
 }
