@@ -1,11 +1,12 @@
 -- One more block: the words, and the output that is written block by block.
-use Rattle.std.proofs.Common.{◌≡◌, ℕ, zero, suc, ◌+◌, ◌-◌, ◌*◌, List, ◌++◌, length, drop, sym, refl, ap, ◌∙◌, append_assoc, add-one, arith}
+use Rattle.std.proofs.Common.{◌≡◌, ℕ, zero, suc, ◌+◌, ◌-◌, ◌*◌, ◌/◌, ◌≤◌, List, ◌++◌, length, drop, sym, refl, ap, ◌∙◌, append_assoc, add-one, arith}
 use borrow.Rule.Slice.PartMut.{put_mid}
-use Rattle.std.proofs.lemmas.List.{length-append, take_at, drop_at, drop-drop}
+use Rattle.std.proofs.lemmas.List.{length-append, take_at, drop_at, drop-drop, drop_all, append-nil, length-drop}
 use Rattle.engine.specs.Meaning.{permuted}
 use Rattle.suite.specs.Words.{bytes_of}
 use Rattle.aead.specs.Bytes.{block}
 use Rattle.aead.specs.Blocks.{absorbed, rate, after_blocks, sealed_blocks}
+use Rattle.aead.proofs.Bytes.{block_behind}
 
 pub length_rate : (ws : List ℕ) → length (rate ws) ≡ 16
 unfolding rate bytes_of
@@ -37,3 +38,20 @@ pub covered_more : (ws text : List ℕ) (i : ℕ) (v b w new out rest : List ℕ
 covered_more ws text i v b w new out rest p q r s h =
     let e : sealed_blocks i ws text ++ new ≡ sealed_blocks (i + 1) ws text = rw (add-one) (ap (λ x. sealed_blocks i ws text ++ x) (s ∙ ap rate (r ∙ rw (p, q)))) in
     written i (sealed_blocks i ws text) new out rest (length_covered i ws text) h ∙ ap (λ x. x ++ drop (16 * (i + 1)) rest) e
+
+-- the block after the whole ones
+pub rest_block : (ws text now : List ℕ) → length now ≡ length text
+    → now ≡ sealed_blocks (length text / 16) ws text ++ drop (16 * (length text / 16)) text → block now (length now / 16) ≡ block text (length text / 16)
+rest_block ws text now size is =
+    let n = length text / 16 in
+    ap (λ (k : ℕ). block now (k / 16)) size ∙ ap (λ x. block x n) is
+    ∙ block_behind (sealed_blocks n ws text) text n (length_covered n ws text) (omega arith)
+
+-- the rest written over, behind the whole blocks
+pub rest_written : (p text now new : List ℕ) → length now ≡ length text → length p ≡ 16 * (length text / 16) → now ≡ p ++ drop (16 * (length text / 16)) text
+    → put_mid (16 * (length now / 16)) (length now - 16 * (length now / 16)) now new ≡ p ++ new
+rest_written p text now new size long is =
+    let n = length text / 16 in
+    let rest = drop (16 * n) text in
+    let short : length rest ≤ length text - 16 * n = simp length-drop (omega arith) in
+    rw (size, is, take_at p rest (16 * n) long, drop_at p rest (16 * n) long, drop_all (length text - 16 * n) rest short, append-nil)

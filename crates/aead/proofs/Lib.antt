@@ -3,6 +3,7 @@ mod Bytes
 mod CallLaws
 mod Chains
 mod Inverse
+mod Made
 mod Opens
 mod Outcomes
 mod Parts

@@ -1,12 +1,9 @@
 -- How a call of `seal` or `open` comes out, from what its parts promise.
 -- Assumes nothing.
-use Rattle.std.proofs.Common.{◌≡◌, ℕ, ◌+◌, ◌-◌, ◌<◌, ◌≤◌, Bool, true, false, cond, List, ◌++◌, length, take, drop, replicate, is_ok, IfOk, Ok, Err, Result, sym, refl, ap, ◌∙◌, ap₂, arith}
-use native.Mathlib.Nat.{sub-zero}
-use borrow.Rule.Slice.PartMut.{post_of}
+use Rattle.std.proofs.Common.{◌≡◌, ℕ, ◌+◌, ◌-◌, ◌<◌, ◌≤◌, Bool, true, false, cond, List, ◌++◌, length, take, drop, replicate, is_ok, IfOk, Ok, Err, Result, refl, ap, ◌∙◌, arith}
 use Rattle.engine.specs.Meaning.{Meaning}
 use Rattle.engine.specs.Runs.{after, completed, has, paid, refusal, wiped, zero_words}
 use Rattle.engine.specs.declared.fault.EngineFault.{EngineFault}
-use Rattle.std.proofs.lemmas.List.{length-append, length-take-le}
 use Rattle.std.proofs.lemmas.Bool.{le-ltb, lt-ltb}
 use Rattle.suite.specs.Facts.{stamped}
 use Rattle.suite.specs.declared.fault.SuiteFault.{SuiteFault}
@@ -15,22 +12,7 @@ use Rattle.aead.specs.Bytes.{same}
 use Rattle.aead.specs.Calls.{Outcome, accepted, cleared, lifted, long, opening, out_of_runs, sealing, settled, verified}
 use Rattle.aead.specs.Cipher.{cost, sealed, tag_of, unsealed}
 
--- ---- the question of length
-
-pub was_long : (b : Bool) (e : SuiteFault) (res : Result (Unit {0}) SuiteFault) → res ≡ cond b (Err InputTooLong) (Ok tt) → res ≡ Err e
-    → (b ≡ true) × (e ≡ InputTooLong)
-was_long true e res is err = (refl, let h = sym err ∙ is in cc)
-was_long false e res is err = let h = sym err ∙ is in let z : ◌≡◌ {A = ℕ} 0 1 = cc in absurd (omega arith)
-
-pub not_long : (b : Bool) (u : Unit {0}) (res : Result (Unit {0}) SuiteFault) → res ≡ cond b (Err InputTooLong) (Ok tt) → res ≡ Ok u
-    → b ≡ false
-not_long true u res is ok = let h = sym ok ∙ is in let z : ◌≡◌ {A = ℕ} 0 1 = cc in absurd (omega arith)
-not_long false u res is ok = refl
-
 -- ---- the end of a call
-
-outcome : Result ℕ SuiteFault → List ℕ → Meaning → Outcome
-outcome r o z = (r, o, z)
 
 three : {r s : Result ℕ SuiteFault} {o p : List ℕ} {y z : Meaning} → r ≡ s → o ≡ p → y ≡ z → ◌≡◌ {A = Outcome} (r, o, y) (s, p, z)
 three a b c = cc
@@ -41,100 +23,86 @@ module _ (runs n k : ℕ) (out : List ℕ) (m : Meaning) (res : Result (Unit {0}
   engine_left : z ≡ after runs zero_words m
   engine_left = clear ∙ ap wiped spent
 
-  rest : (new : List ℕ) → o₂ ≡ new → o₂ ++ post_of 0 (n - 0) out ≡ new ++ drop n out
-  rest new e = ap₂ (λ (a b : List ℕ). a ++ b) e (ap (λ (j : ℕ). drop j out) (sub-zero n))
-
-  pub ended_ok : (new : List ℕ) → res ≡ Ok tt → o₁ ≡ new → ◌≡◌ {A = Outcome} (r, o₂ ++ post_of 0 (n - 0) out, z) (accepted runs n new out m)
+  pub ended_ok : (new : List ℕ) → res ≡ Ok tt → o₁ ≡ new → ◌≡◌ {A = Outcome} (r, o₂ ++ drop n out, z) (accepted runs n new out m)
   ended_ok new is e =
       three (answer ∙ ap (settled k (length o₁)) is ∙ ap Ok long')
-      (rest new (written ∙ ap (λ (x : Result (Unit {0}) SuiteFault). cond (is_ok x) o₁ (replicate (length o₁) 0)) is ∙ e)) engine_left
+      (ap (λ (x : List ℕ). x ++ drop n out) (written ∙ ap (λ (x : Result (Unit {0}) SuiteFault). cond (is_ok x) o₁ (replicate (length o₁) 0)) is ∙ e)) engine_left
 
   pub ended_err : (e fault : SuiteFault) → res ≡ Err e → stamped k e ≡ fault
-      → ◌≡◌ {A = Outcome} (r, o₂ ++ post_of 0 (n - 0) out, z) (cleared runs n fault out m)
+      → ◌≡◌ {A = Outcome} (r, o₂ ++ drop n out, z) (cleared runs n fault out m)
   ended_err e fault is stamp =
       three (answer ∙ ap (settled k (length o₁)) is ∙ ap Err stamp)
-      (rest (replicate n 0)
+      (ap (λ (x : List ℕ). x ++ drop n out)
       (written ∙ ap (λ (x : Result (Unit {0}) SuiteFault). cond (is_ok x) o₁ (replicate (length o₁) 0)) is
       ∙ ap (λ (j : ℕ). replicate j 0) long'))
       engine_left
 
 -- ---- sealing
 
-module _ (key nonce xs ys text out : List ℕ) (m : Meaning) where
-  pub seals_long : (r : Result ℕ SuiteFault) → long (length xs + length ys) (length text) ≡ true → r ≡ Err InputTooLong
-      → ◌≡◌ {A = Outcome} (r, out, m) (sealing key nonce (xs ++ ys) text out m)
+module _ (key nonce ad text out : List ℕ) (m : Meaning) where
+  pub seals_long : long (length ad) (length text) ≡ true → sealing key nonce ad text out m ≡ (Err InputTooLong, out, m)
   unfolding sealing
-  seals_long r h is =
-      let e : long (length (xs ++ ys)) (length text) ≡ true = ap (λ (n : ℕ). long n (length text)) (length-append xs ys) ∙ h in
-      rw e (three is refl refl)
+  seals_long h = rw h
 
-  pub seals_short : long (length xs + length ys) (length text) ≡ false → length out < length text + 16
-      → ◌≡◌ {A = Outcome} (Err OutputTooShort, out, m) (sealing key nonce (xs ++ ys) text out m)
+  pub seals_short : long (length ad) (length text) ≡ false → length out < length text + 16 → sealing key nonce ad text out m ≡ (Err OutputTooShort, out, m)
   unfolding sealing
-  seals_short h lt =
-      let e : long (length (xs ++ ys)) (length text) ≡ false = ap (λ (n : ℕ). long n (length text)) (length-append xs ys) ∙ h in
-      rw (e, lt-ltb (length out) (length text + 16) lt)
+  seals_short h lt = rw (h, lt-ltb (length out) (length text + 16) lt)
 
   abbrev price : ℕ
-  price = cost (length xs + length ys) (length text)
+  price = cost (length ad) (length text)
 
   pub seals_whole : (b : Bool) (k : ℕ) (r₁ : Result (Unit {0}) EngineFault) (r₂ : Result (Unit {0}) SuiteFault) (r : Result ℕ SuiteFault) (o₁ o₂ : List ℕ) (y z : Meaning)
-      → has price m ≡ b
-      → long (length xs + length ys) (length text) ≡ false → length text + 16 ≤ length out → length o₁ ≡ length text + 16
-      → r₁ ≡ paid price m tt → IfOk r₁ (λ _. o₁ ≡ sealed key nonce (xs ++ ys) text) → k ≡ completed m → y ≡ after price y.words m
+      → has price m ≡ b → long (length ad) (length text) ≡ false → length text + 16 ≤ length out → length o₁ ≡ length text + 16
+      → r₁ ≡ paid price m tt → IfOk r₁ (λ _. o₁ ≡ sealed key nonce ad text) → k ≡ completed m → y ≡ after price y.words m
       → r₂ ≡ lifted r₁ → r ≡ settled k (length o₁) r₂ → o₂ ≡ cond (is_ok r₂) o₁ (replicate (length o₁) 0) → z ≡ wiped y
-      → ◌≡◌ {A = Outcome} (r, o₂ ++ post_of 0 (length text + 16 - 0) out, z) (sealing key nonce (xs ++ ys) text out m)
+      → ◌≡◌ {A = Outcome} (r, o₂ ++ drop (length text + 16) out, z) (sealing key nonce ad text out m)
   unfolding sealing
   seals_whole true k r₁ r₂ r o₁ o₂ y z here short room size is made' runs spent lift answer written clear =
-      let ad : length (xs ++ ys) ≡ length xs + length ys = length-append xs ys in
       let ok : r₁ ≡ Ok tt = is ∙ ap (λ (b : Bool). cond b (Ok tt) (Err (refusal m))) here in
-      rw (ad, short, le-ltb (length out) (length text + 16) room, here)
-      (ended_ok price (length text + 16) k out m r₂ r o₁ o₂ y z size spent answer written clear (sealed key nonce (xs ++ ys) text)
+      rw (short, le-ltb (length out) (length text + 16) room, here)
+      (ended_ok price (length text + 16) k out m r₂ r o₁ o₂ y z size spent answer written clear (sealed key nonce ad text)
       (lift ∙ ap lifted ok) (rw ok at made'))
   seals_whole false k r₁ r₂ r o₁ o₂ y z gone short room size is made' runs spent lift answer written clear =
-      let ad : length (xs ++ ys) ≡ length xs + length ys = length-append xs ys in
       let no-runs : r₁ ≡ Err (refusal m) = is ∙ ap (λ (b : Bool). cond b (Ok tt) (Err (refusal m))) gone in
-      rw (ad, short, le-ltb (length out) (length text + 16) room, gone)
+      rw (short, le-ltb (length out) (length text + 16) room, gone)
       (ended_err price (length text + 16) k out m r₂ r o₁ o₂ y z size spent answer written clear (Engine (refusal m) 0) (out_of_runs m)
       (lift ∙ ap lifted no-runs) (ap (λ (j : ℕ). Engine (refusal m) j) runs))
 
 -- ---- opening
 
-module _ (key nonce xs ys s out : List ℕ) (m : Meaning) where
-  pub opens_untagged : length s < 16 → ◌≡◌ {A = Outcome} (Err TagMissing, out, m) (opening key nonce (xs ++ ys) s out m)
+module _ (key nonce ad s out : List ℕ) (m : Meaning) where
+  pub opens_untagged : length s < 16 → opening key nonce ad s out m ≡ (Err TagMissing, out, m)
   unfolding opening
   opens_untagged h = rw (lt-ltb (length s) 16 h)
 
-  pub opens_long : (r : Result ℕ SuiteFault) → 16 ≤ length s → long (length xs + length ys) (length s - 16) ≡ true → r ≡ Err InputTooLong
-      → ◌≡◌ {A = Outcome} (r, out, m) (opening key nonce (xs ++ ys) s out m)
+  pub opens_long : (n : ℕ) → n + 16 ≡ length s → long (length ad) n ≡ true → opening key nonce ad s out m ≡ (Err InputTooLong, out, m)
   unfolding opening
-  opens_long r t h is =
-      let e : long (length (xs ++ ys)) (length s - 16) ≡ true = ap (λ (n : ℕ). long n (length s - 16)) (length-append xs ys) ∙ h in
-      rw (le-ltb (length s) 16 t, e) (three is refl refl)
+  opens_long n at h =
+      let e : length s - 16 ≡ n = omega arith in
+      rw (le-ltb (length s) 16 (omega arith), e, h)
 
-  pub opens_short : 16 ≤ length s → long (length xs + length ys) (length s - 16) ≡ false → length out < length s - 16
-      → ◌≡◌ {A = Outcome} (Err OutputTooShort, out, m) (opening key nonce (xs ++ ys) s out m)
+  pub opens_short : (n : ℕ) → n + 16 ≡ length s → long (length ad) n ≡ false → length out < n → opening key nonce ad s out m ≡ (Err OutputTooShort, out, m)
   unfolding opening
-  opens_short t h lt =
-      let e : long (length (xs ++ ys)) (length s - 16) ≡ false = ap (λ (n : ℕ). long n (length s - 16)) (length-append xs ys) ∙ h in
-      rw (le-ltb (length s) 16 t, e, lt-ltb (length out) (length s - 16) lt)
+  opens_short n at h lt =
+      let e : length s - 16 ≡ n = omega arith in
+      rw (le-ltb (length s) 16 (omega arith), e, h, lt-ltb (length out) n lt)
 
-  -- the ciphertext, its text and the tag of that
+  -- a ciphertext, its text and the tag of that
   module _ (c : List ℕ) where
     abbrev open_price : ℕ
-    open_price = cost (length xs + length ys) (length c)
+    open_price = cost (length ad) (length c)
 
     abbrev text : List ℕ
-    text = unsealed key nonce (xs ++ ys) c
+    text = unsealed key nonce ad c
 
     abbrev tag : List ℕ
-    tag = tag_of key nonce (xs ++ ys) text
+    tag = tag_of key nonce ad text
 
     decided : (b t : Bool) (k : ℕ) (came : List ℕ) (r₁ : Result (List ℕ) EngineFault) (r₂ : Result (Unit {0}) SuiteFault) (r : Result ℕ SuiteFault) (o₁ o₂ : List ℕ) (y z : Meaning)
         → has open_price m ≡ b → same tag came ≡ t → length o₁ ≡ length c
         → r₁ ≡ paid open_price m tag → IfOk r₁ (λ _. o₁ ≡ text) → k ≡ completed m → y ≡ after open_price y.words m
         → r₂ ≡ verified came r₁ → r ≡ settled k (length o₁) r₂ → o₂ ≡ cond (is_ok r₂) o₁ (replicate (length o₁) 0) → z ≡ wiped y
-        → ◌≡◌ {A = Outcome} (r, o₂ ++ post_of 0 (length c - 0) out, z)
+        → ◌≡◌ {A = Outcome} (r, o₂ ++ drop (length c) out, z)
         (cond b (cond t (accepted open_price (length c) text out m) (cleared open_price (length c) TagMismatch out m))
         (cleared open_price (length c) (out_of_runs m) out m))
     decided true true k came r₁ r₂ r o₁ o₂ y z here right size is made' runs spent ver answer written clear =
@@ -151,16 +119,13 @@ module _ (key nonce xs ys s out : List ℕ) (m : Meaning) where
         (ver ∙ ap (verified came) no-runs) (ap (λ (j : ℕ). Engine (refusal m) j) runs)
 
     pub opens_whole : (k : ℕ) (came : List ℕ) (r₁ : Result (List ℕ) EngineFault) (r₂ : Result (Unit {0}) SuiteFault) (r : Result ℕ SuiteFault) (o₁ o₂ : List ℕ) (y z : Meaning)
-        → 16 ≤ length s → long (length xs + length ys) (length s - 16) ≡ false → length s - 16 ≤ length out
-        → c ≡ take (length s - 16 - 0) s → came ≡ drop (length s - 16) s → length o₁ ≡ length c
+        → length c + 16 ≡ length s → long (length ad) (length c) ≡ false → length c ≤ length out
+        → c ≡ take (length s - 16) s → came ≡ drop (length s - 16) s → length o₁ ≡ length c
         → r₁ ≡ paid open_price m tag → IfOk r₁ (λ _. o₁ ≡ text) → k ≡ completed m → y ≡ after open_price y.words m
         → r₂ ≡ verified came r₁ → r ≡ settled k (length o₁) r₂ → o₂ ≡ cond (is_ok r₂) o₁ (replicate (length o₁) 0) → z ≡ wiped y
-        → ◌≡◌ {A = Outcome} (r, o₂ ++ post_of 0 (length s - 16 - 0) out, z) (opening key nonce (xs ++ ys) s out m)
+        → ◌≡◌ {A = Outcome} (r, o₂ ++ drop (length c) out, z) (opening key nonce ad s out m)
     unfolding opening
-    opens_whole k came r₁ r₂ r o₁ o₂ y z sixteen short room cut last size is made' runs spent ver answer written clear =
-        let n = length s - 16 in
-        let ad : length (xs ++ ys) ≡ length xs + length ys = length-append xs ys in
-        let front : take n s ≡ c = sym (cut ∙ ap (λ (j : ℕ). take j s) (sub-zero n)) in
-        let count : length c ≡ n = ap length (sym front) ∙ length-take-le n s (omega arith) in
-        rw (le-ltb (length s) 16 sixteen, ad, short, le-ltb (length out) n room, front, ← last, ← count)
+    opens_whole k came r₁ r₂ r o₁ o₂ y z at short room cut last size is made' runs spent ver answer written clear =
+        let count : length s - 16 ≡ length c = omega arith in
+        rw (le-ltb (length s) 16 (omega arith), ← last, ← cut, count, short, le-ltb (length out) (length c) room)
         (decided (has open_price m) (same tag came) k came r₁ r₂ r o₁ o₂ y z refl refl size is made' runs spent ver answer written clear)

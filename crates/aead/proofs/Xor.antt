@@ -1,8 +1,7 @@
 -- Bytes of words, and bytes XORed: what is XORed twice is as before.
-use Rattle.std.proofs.Common.{◌≡◌, ℕ, zero, suc, ◌+◌, ◌*◌, ◌/◌, ◌%◌, ◌<◌, ◌≤◌, List, [], ◌∷◌, ◌++◌, length, get_or, take, drop, sym, refl, ap, ◌∙◌, arith}
+use Rattle.std.proofs.Common.{◌≡◌, ℕ, zero, suc, ◌+◌, ◌*◌, ◌/◌, ◌%◌, ◌<◌, ◌≤◌, List, [], ◌∷◌, ◌++◌, length, get_or, set, take, drop, sym, refl, ap, ◌∙◌, arith}
 use lib.Bits.{bit_xor, xor_mod, xor_shr, xor_comm, xor_assoc, xor_self, xor_zero_r, xor_lt}
 use lib.Lanes.{number_l, digits_l, zip2}
-use Rattle.std.proofs.lemmas.Simd.{get_or-zip2}
 use Rattle.std.proofs.lemmas.List.{length-take, length-drop, take-append-drop, take_all}
 use Rattle.std.proofs.ByRecursion.{All-append, All-take, All-drop}
 use Rattle.suite.proofs.Words.{length_bytes_of}
@@ -94,6 +93,12 @@ bytes_xored [] ys h k = tt
 bytes_xored (x ∷ xs) [] h k = tt
 bytes_xored (x ∷ xs) (y ∷ ys) h k = (xor_lt 8 x y h.0 k.0, bytes_xored xs ys h.1 k.1)
 
-pub get_or_xored : (xs ys : List ℕ) (k : ℕ) → k < length xs → k < length ys → get_or (xored xs ys) k 0 ≡ bit_xor (get_or xs k 0) (get_or ys k 0)
+-- one more byte XORed where it stands
+pub xored_more : (xs ys : List ℕ) (i : ℕ) → i < length xs → i < length ys
+    → set (xored (take i xs) ys ++ drop i xs) i (bit_xor (get_or (xored (take i xs) ys ++ drop i xs) i 0) (get_or ys i 0))
+    ≡ xored (take (suc i) xs) ys ++ drop (suc i) xs
 unfolding xored
-get_or_xored xs ys k h l = get_or-zip2 bit_xor xs ys k 0 0 0 h l
+xored_more [] ys i h k = absurd (omega arith)
+xored_more (x ∷ xs) [] i h k = absurd (omega arith)
+xored_more (x ∷ xs) (y ∷ ys) zero h k = refl
+xored_more (x ∷ xs) (y ∷ ys) (suc i) h k = ap (λ zs. bit_xor x y ∷ zs) (xored_more xs ys i (omega arith) (omega arith))

@@ -1,10 +1,12 @@
 // Comparing tags.
-ghost use Rattle.std.specs.Prelude.{◌≡◌, take, ◌==◌};
+ghost use Rattle.std.specs.Prelude.{◌≡◌, bit_or, bit_xor, fold};
+ghost use Rattle.std.specs.List.{zip};
 ghost use Rattle.aead.specs.Bytes.{same};
 
 use crate::words::Block;
 
-// Whether two tags are the same. All sixteen bytes are looked at, whatever they are.
+// Whether two tags are the same.
+// Kept: all sixteen bytes are looked at, whatever they are; `==` may end at the first difference, and tells by its time where that is.
 pub(crate) fn equal(left: &Block, right: &Block) -> bool
     ensures all_bytes_compared { result ≡ same left.now right.now }
 {
@@ -13,11 +15,10 @@ pub(crate) fn equal(left: &Block, right: &Block) -> bool
 
 // The bits in which any two bytes of the tags differ.
 fn differences(left: &Block, right: &Block) -> u8
-    ensures none_where_same { (result == 0) ≡ same (take 16 left.now) (take 16 right.now) }
+    ensures differences_gathered { result
+        ≡ fold (λ differ p. bit_or differ (bit_xor p.0 p.1)) 0 (zip left.now right.now) }
 {
-    let mut differ = 0;
-    for i in 0..16 {
-        differ |= left[i] ^ right[i];
-    }
-    differ
+    left.iter()
+        .zip(right)
+        .fold(0, |differ, (left, right)| differ | (left ^ right))
 }

@@ -1,8 +1,7 @@
 // What sealing and opening share around their steps: the question of length before them, and the clearing after them.
-ghost use Rattle.std.specs.Prelude.{◌≡◌, ◌+◌, length, replicate, is_ok, if◌then◌else◌, Ok, Err};
+ghost use Rattle.std.specs.Prelude.{◌≡◌, length, replicate, is_ok, if◌then◌else◌};
 ghost use Rattle.engine.specs.Of.{meaning};
 ghost use Rattle.engine.specs.Runs.{wiped};
-ghost use Rattle.suite.specs.declared.fault.SuiteFault.TheVariants.{InputTooLong as TooLong};
 ghost use Rattle.aead.specs.Calls.{long, settled};
 
 use engine::Engine;
@@ -11,14 +10,11 @@ use suite::SuiteFault;
 // The most bytes of associated data, and of text.
 const LIMIT: usize = 16_777_216;
 
-// Whether associated data in two parts and a text are short enough.
-pub(crate) fn within_limits(front: usize, back: usize, text: usize) -> Result<(), SuiteFault>
-    ensures lengths_asked { result ≡ (if long (front + back) text then Err TooLong else Ok tt) }
+// Whether so many bytes of associated data or of text are too many.
+pub(crate) fn too_long(ad: usize, text: usize) -> bool
+    ensures limits_asked { result ≡ long ad text }
 {
-    if front > LIMIT || back > LIMIT - front || text > LIMIT {
-        return Err(SuiteFault::InputTooLong);
-    }
-    Ok(())
+    ad > LIMIT || text > LIMIT
 }
 
 // Ends a call: zero words, and after a refusal a zero output and the completed runs in an engine's refusal.

@@ -5,13 +5,14 @@
 #![tactic(auto)]
 
 mod comparing;
+mod data;
 mod ending;
 mod opening;
-mod padding;
 mod sealing;
 mod steps;
 mod words;
 
+pub use data::{Context, Joined};
 pub use opening::open;
 pub use sealing::seal;
 pub use words::Block;

@@ -1,108 +1,89 @@
 // Opening: a ciphertext and its tag to the text, which is handed out only where the tag is right.
-ghost use Rattle.std.specs.Prelude.{◌≡◌, ◌+◌, ◌-◌, ◌*◌, ◌/◌, ◌≤◌, ◌++◌, length, drop, OnOk};
+ghost use Rattle.std.specs.Prelude.{◌≡◌, ◌*◌, ◌/◌, ◌≤◌, ◌++◌, length, drop, OnOk};
 ghost use Rattle.engine.specs.Of.{meaning};
 ghost use Rattle.engine.specs.Runs.{after, paid};
 ghost use Rattle.aead.specs.Blocks.{after_opening, after_text, opened_blocks, plaintext};
 ghost use Rattle.aead.specs.Bytes.{xored};
 ghost use Rattle.aead.specs.Calls.{opening as opening_of, verified};
 ghost use Rattle.aead.specs.Cipher.{cost, tag_of, unsealed};
+ghost use Rattle.aead.specs.Data.{joined};
 ghost use Rattle.aead.specs.Laws.{AcceptsExactlySealed, SealingUndoesOpening};
 
 use crate::comparing::equal;
-use crate::ending::{settle, within_limits};
-use crate::padding::block;
+use crate::data::{Context, block};
+use crate::ending::{settle, too_long};
 use crate::steps::{absorb, absorb_rest, finalize, prepare, squeeze};
 use crate::words::Block;
 use engine::{Engine, EngineFault, completed_runs};
 use suite::SuiteFault;
 
-// XORs at most sixteen bytes of ciphertext with the bytes of w0 and w1.
-fn uncover(mask: &Block, sealed: &[u8], out: &mut [u8])
-    requires len { length out.old ≡ length sealed.now }
-    requires few { length sealed.now ≤ 16 }
-    ensures bytes_xored { out.new ≡ xored sealed.now mask.now }
+// XORs at most sixteen bytes with those of w0 and w1.
+fn uncover(mask: &Block, bytes: &mut [u8])
+    requires few { length bytes.old ≤ 16 }
+    ensures bytes_xored { bytes.new ≡ xored bytes.old mask.now }
 {
-    for i in 0..sealed.len() {
-        out[i] = sealed[i] ^ mask[i];
+    // Kept: an index, since nothing is known of the bytes after `iter_mut().zip(mask)`.
+    for (i, byte) in bytes.iter_mut().enumerate() {
+        *byte ^= mask[i];
     }
 }
 
-// Opens the whole blocks of a ciphertext, with run 8 after each.
-fn open_blocks<E: Engine>(engine: &mut E, sealed: &[u8], out: &mut [u8]) -> Result<(), EngineFault>
-    requires len { length out.old ≡ length sealed.now }
-    ensures paid_or_refused { result ≡ paid (length sealed.now / 16) (meaning E.Engine engine.old) tt }
+// Opens the whole blocks of a ciphertext where it stands, with run 8 after each.
+fn open_blocks<E: Engine>(engine: &mut E, text: &mut [u8]) -> Result<(), EngineFault>
+    ensures paid_or_refused { result ≡ paid (length text.old / 16) (meaning E.Engine engine.old) tt }
     ensures blocks_absorbed { OnOk result (E.words engine.new
-        ≡ after_opening (length sealed.now / 16) (E.words engine.old) sealed.now) }
-    ensures blocks_written { OnOk result (out.new
-        ≡ opened_blocks (length sealed.now / 16) (E.words engine.old) sealed.now ++ drop (16 * (length
-        sealed.now / 16)) out.old) }
+        ≡ after_opening (length text.old / 16) (E.words engine.old) text.old) }
+    ensures blocks_written { OnOk result (text.new
+        ≡ opened_blocks (length text.old / 16) (E.words engine.old) text.old ++ drop (16 * (length
+        text.old / 16)) text.old) }
     ensures runs_spent { meaning E.Engine engine.new
-        ≡ after (length sealed.now / 16) (E.words engine.new) (meaning E.Engine engine.old) }
+        ≡ after (length text.old / 16) (E.words engine.new) (meaning E.Engine engine.old) }
 {
-    for i in 0..sealed.len() / 16 {
-        let mask = squeeze(engine)?;
-        let part = &mut out[16 * i..16 * i + 16];
-        uncover(&mask, &sealed[16 * i..16 * i + 16], part);
-        absorb(engine, &block(part, &[], 0))?;
+    // Kept: an index, as in `seal_blocks`.
+    for i in 0..text.len() / 16 {
+        let part = &mut text[16 * i..16 * i + 16];
+        uncover(&squeeze(engine)?, part);
+        absorb(engine, &block(part, 0))?;
         engine.run(8)?;
     }
     Ok(())
 }
 
-// Opens a ciphertext: its whole blocks, and then the rest with no run.
-fn open_text<E: Engine>(engine: &mut E, sealed: &[u8], out: &mut [u8]) -> Result<(), EngineFault>
-    requires len { length out.old ≡ length sealed.now }
-    ensures paid_or_refused { result ≡ paid (length sealed.now / 16) (meaning E.Engine engine.old) tt }
+// Opens a ciphertext where it stands: its whole blocks, and then the rest with no run.
+fn open_text<E: Engine>(engine: &mut E, text: &mut [u8]) -> Result<(), EngineFault>
+    ensures paid_or_refused { result ≡ paid (length text.old / 16) (meaning E.Engine engine.old) tt }
     ensures text_absorbed { OnOk result (E.words engine.new
-        ≡ after_text (E.words engine.old) (plaintext (E.words engine.old) sealed.now)) }
-    ensures plaintext_written { OnOk result (out.new
-        ≡ plaintext (E.words engine.old) sealed.now) }
+        ≡ after_text (E.words engine.old) (plaintext (E.words engine.old) text.old)) }
+    ensures plaintext_written { OnOk result (text.new
+        ≡ plaintext (E.words engine.old) text.old) }
     ensures runs_spent { meaning E.Engine engine.new
-        ≡ after (length sealed.now / 16) (E.words engine.new) (meaning E.Engine engine.old) }
+        ≡ after (length text.old / 16) (E.words engine.new) (meaning E.Engine engine.old) }
 {
-    open_blocks(engine, sealed, out)?;
-    let whole = sealed.len() / 16;
-    let mask = squeeze(engine)?;
-    let part = &mut out[16 * whole..sealed.len()];
-    uncover(&mask, &sealed[16 * whole..sealed.len()], part);
-    absorb_rest(engine, part)?;
+    open_blocks(engine, text)?;
+    let start = 16 * (text.len() / 16);
+    uncover(&squeeze(engine)?, &mut text[start..]);
+    absorb_rest(engine, text)?;
     Ok(())
 }
 
-// All the steps of opening, with an output of just the right length. The answer is the tag that the text has.
-fn open_steps<E: Engine>(
+// All the steps of opening, on a ciphertext where it stands. The answer is the tag that the text has.
+fn open_in_place<E: Engine>(
     engine: &mut E,
-    key: &Block,
-    nonce: &Block,
-    front: &[u8],
-    back: &[u8],
-    sealed: &[u8],
-    out: &mut [u8],
+    context: &Context<'_>,
+    text: &mut [u8],
 ) -> Result<Block, EngineFault>
-    requires len { length out.old ≡ length sealed.now }
     ensures paid_or_refused { result
-        ≡ paid (cost (length front.now + length back.now) (length sealed.now)) (meaning E.Engine
-        engine.old) (tag_of key.now nonce.now (front.now ++ back.now) (unsealed
-        key.now nonce.now (front.now ++ back.now) sealed.now)) }
-    ensures text_written { OnOk result (out.new
-        ≡ unsealed key.now nonce.now (front.now ++ back.now) sealed.now) }
+        ≡ paid (cost (length (joined context.now.data)) (length text.old)) (meaning E.Engine engine.old)
+        (tag_of context.now.key.now context.now.nonce.now (joined context.now.data) (unsealed
+        context.now.key.now context.now.nonce.now (joined context.now.data) text.old)) }
+    ensures text_written { OnOk result (text.new
+        ≡ unsealed context.now.key.now context.now.nonce.now (joined context.now.data) text.old) }
     ensures runs_spent { meaning E.Engine engine.new
-        ≡ after (cost (length front.now + length back.now) (length sealed.now)) (E.words engine.new) (meaning E.Engine engine.old) }
+        ≡ after (cost (length (joined context.now.data)) (length text.old)) (E.words engine.new) (meaning E.Engine engine.old) }
 {
-    prepare(engine, key, nonce, front, back)?;
-    open_text(engine, sealed, out)?;
-    let tag = finalize(engine, key)?;
-    Ok(tag)
-}
-
-// The last sixteen bytes.
-fn last_block(sealed: &[u8]) -> Block
-    requires long { 16 ≤ length sealed.now }
-    ensures bytes_copied { result ≡ drop (length sealed.now - 16) sealed.now }
-{
-    let mut tag = [0; 16];
-    tag.copy_from_slice(&sealed[sealed.len() - 16..]);
-    tag
+    prepare(engine, context)?;
+    open_text(engine, text)?;
+    finalize(engine, context.key)
 }
 
 // The computed tag against the one that came. An engine's refusal becomes one of the suite.
@@ -116,48 +97,32 @@ fn verify(computed: Result<Block, EngineFault>, tag: &Block) -> Result<(), Suite
     Ok(())
 }
 
-// Opens a sealed text under a key and a nonce, with associated data in two parts that count as joined. The output begins with the text,
-// whose length is the answer. Where the tag is another, or the engine refuses a run, that part of the output is zero.
+// Opens a sealed text under its context. The output begins with the text, whose length is the answer. Where the tag is another, or the
+// engine refuses a run, that part of the output is zero.
+#[tactic(auto, using(crate::proofs::CallLaws::sealing_undoes_opening, crate::proofs::CallLaws::accepts_exactly_sealed, crate::proofs::Outcomes::opens_untagged, crate::proofs::Outcomes::opens_long, crate::proofs::Outcomes::opens_short))]
 pub fn open<E: Engine>(
     engine: &mut E,
-    key: &Block,
-    nonce: &Block,
-    front: &[u8],
-    back: &[u8],
+    context: &Context<'_>,
     sealed: &[u8],
     out: &mut [u8],
 ) -> Result<usize, SuiteFault>
     ensures opened_or_refused { (result, out.new, meaning E.Engine engine.new)
-        ≡ opening_of key.now nonce.now (front.now ++ back.now) sealed.now out.old (meaning E.Engine engine.old) }
+        ≡ opening_of context.now.key.now context.now.nonce.now (joined context.now.data) sealed.now out.old (meaning E.Engine engine.old) }
     ensures sealing_undoes_opening { SealingUndoesOpening }
     ensures accepts_exactly_sealed_texts { AcceptsExactlySealed }
 {
-    open_or_refuse(engine, key, nonce, front, back, sealed, out)
-}
-
-fn open_or_refuse<E: Engine>(
-    engine: &mut E,
-    key: &Block,
-    nonce: &Block,
-    front: &[u8],
-    back: &[u8],
-    sealed: &[u8],
-    out: &mut [u8],
-) -> Result<usize, SuiteFault>
-    ensures opened_or_refused { (result, out.new, meaning E.Engine engine.new)
-        ≡ opening_of key.now nonce.now (front.now ++ back.now) sealed.now out.old (meaning E.Engine engine.old) }
-{
-    if sealed.len() < 16 {
+    let Some((ciphertext, tag)) = sealed.split_last_chunk::<16>() else {
         return Err(SuiteFault::TagMissing);
+    };
+    if too_long(context.data.len(), ciphertext.len()) {
+        return Err(SuiteFault::InputTooLong);
     }
-    let size = sealed.len() - 16;
-    within_limits(front.len(), back.len(), size)?;
-    if out.len() < size {
+    if out.len() < ciphertext.len() {
         return Err(SuiteFault::OutputTooShort);
     }
     let runs = completed_runs(engine);
-    let part = &mut out[0..size];
-    let computed = open_steps(engine, key, nonce, front, back, &sealed[0..size], part);
-    let result = verify(computed, &last_block(sealed));
-    settle(engine, runs, part, result)
+    let text = &mut out[..ciphertext.len()];
+    text.copy_from_slice(ciphertext);
+    let result = verify(open_in_place(engine, context, text), tag);
+    settle(engine, runs, text, result)
 }

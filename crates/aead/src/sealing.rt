@@ -3,128 +3,121 @@ ghost use Rattle.std.specs.Prelude.{◌≡◌, ◌+◌, ◌*◌, ◌/◌, ◌++�
 ghost use Rattle.engine.specs.Of.{meaning};
 ghost use Rattle.engine.specs.Runs.{after, paid};
 ghost use Rattle.aead.specs.Blocks.{after_blocks, after_text, ciphertext, sealed_blocks};
-ghost use Rattle.aead.specs.Calls.{lifted, sealing as sealing_of};
-ghost use Rattle.aead.specs.Cipher.{cost, sealed};
+ghost use Rattle.aead.specs.Calls.{sealing as sealing_of};
+ghost use Rattle.aead.specs.Cipher.{cost, ready, sealed, tag_of};
+ghost use Rattle.aead.specs.Data.{joined};
 ghost use Rattle.aead.specs.Laws.{OpeningUndoesSealing};
 ghost use Rattle.aead.specs.Values.{PublishedAnswer};
 
-use crate::ending::{settle, within_limits};
-use crate::padding::block;
+use crate::data::{Context, block};
+use crate::ending::{settle, too_long};
 use crate::steps::{absorb, absorb_rest, finalize, prepare, squeeze};
 use crate::words::Block;
 use engine::{Engine, EngineFault, completed_runs};
 use suite::SuiteFault;
 
-// Seals the whole blocks of a text, with run 8 after each.
-fn seal_blocks<E: Engine>(engine: &mut E, text: &[u8], out: &mut [u8]) -> Result<(), EngineFault>
-    requires len { length out.old ≡ length text.now }
-    ensures paid_or_refused { result ≡ paid (length text.now / 16) (meaning E.Engine engine.old) tt }
+// Seals the whole blocks of a text where it stands, with run 8 after each.
+fn seal_blocks<E: Engine>(engine: &mut E, text: &mut [u8]) -> Result<(), EngineFault>
+    ensures paid_or_refused { result ≡ paid (length text.old / 16) (meaning E.Engine engine.old) tt }
     ensures blocks_absorbed { OnOk result (E.words engine.new
-        ≡ after_blocks (length text.now / 16) (E.words engine.old) text.now) }
-    ensures blocks_written { OnOk result (out.new
-        ≡ sealed_blocks (length text.now / 16) (E.words engine.old) text.now ++ drop (16 * (length
-        text.now / 16)) out.old) }
+        ≡ after_blocks (length text.old / 16) (E.words engine.old) text.old) }
+    ensures blocks_written { OnOk result (text.new
+        ≡ sealed_blocks (length text.old / 16) (E.words engine.old) text.old ++ drop (16 * (length
+        text.old / 16)) text.old) }
     ensures runs_spent { meaning E.Engine engine.new
-        ≡ after (length text.now / 16) (E.words engine.new) (meaning E.Engine engine.old) }
+        ≡ after (length text.old / 16) (E.words engine.new) (meaning E.Engine engine.old) }
 {
+    // Kept: an index, since of a slice nothing is known after `chunks_exact_mut` or `as_chunks_mut`, nor of a part after `first_chunk_mut`.
     for i in 0..text.len() / 16 {
-        absorb(engine, &block(text, &[], i))?;
-        out[16 * i..16 * i + 16].copy_from_slice(&squeeze(engine)?);
+        absorb(engine, &block(text, i))?;
+        text[16 * i..16 * i + 16].copy_from_slice(&squeeze(engine)?);
         engine.run(8)?;
     }
     Ok(())
 }
 
-// Seals a text: its whole blocks, and then the padded rest with no run.
-fn seal_text<E: Engine>(engine: &mut E, text: &[u8], out: &mut [u8]) -> Result<(), EngineFault>
-    requires len { length out.old ≡ length text.now }
-    ensures paid_or_refused { result ≡ paid (length text.now / 16) (meaning E.Engine engine.old) tt }
+// Seals a text where it stands: its whole blocks, and then the padded rest with no run.
+fn seal_text<E: Engine>(engine: &mut E, text: &mut [u8]) -> Result<(), EngineFault>
+    ensures paid_or_refused { result ≡ paid (length text.old / 16) (meaning E.Engine engine.old) tt }
     ensures text_absorbed { OnOk result (E.words engine.new
-        ≡ after_text (E.words engine.old) text.now) }
-    ensures ciphertext_written { OnOk result (out.new
-        ≡ ciphertext (E.words engine.old) text.now) }
+        ≡ after_text (E.words engine.old) text.old) }
+    ensures ciphertext_written { OnOk result (text.new
+        ≡ ciphertext (E.words engine.old) text.old) }
     ensures runs_spent { meaning E.Engine engine.new
-        ≡ after (length text.now / 16) (E.words engine.new) (meaning E.Engine engine.old) }
+        ≡ after (length text.old / 16) (E.words engine.new) (meaning E.Engine engine.old) }
 {
-    seal_blocks(engine, text, out)?;
-    let whole = text.len() / 16;
+    seal_blocks(engine, text)?;
     absorb_rest(engine, text)?;
     let last = squeeze(engine)?;
-    out[16 * whole..text.len()].copy_from_slice(&last[0..text.len() - 16 * whole]);
+    let start = 16 * (text.len() / 16);
+    let rest = &mut text[start..];
+    rest.copy_from_slice(&last[..rest.len()]);
     Ok(())
 }
 
-// All the steps of sealing, with an output of just the right length.
-fn seal_steps<E: Engine>(
+// All the steps of sealing, on a text where it stands. The answer is its tag.
+fn seal_in_place<E: Engine>(
     engine: &mut E,
-    key: &Block,
-    nonce: &Block,
-    front: &[u8],
-    back: &[u8],
+    context: &Context<'_>,
+    text: &mut [u8],
+) -> Result<Block, EngineFault>
+    ensures paid_or_refused { result
+        ≡ paid (cost (length (joined context.now.data)) (length text.old)) (meaning E.Engine engine.old)
+        (tag_of context.now.key.now context.now.nonce.now (joined context.now.data) text.old) }
+    ensures ciphertext_written { OnOk result (text.new
+        ≡ ciphertext (ready context.now.key.now context.now.nonce.now (joined context.now.data)) text.old) }
+    ensures runs_spent { meaning E.Engine engine.new
+        ≡ after (cost (length (joined context.now.data)) (length text.old)) (E.words engine.new) (meaning E.Engine engine.old) }
+{
+    prepare(engine, context)?;
+    seal_text(engine, text)?;
+    finalize(engine, context.key)
+}
+
+// The same, into an output of just the right length.
+fn seal_into<E: Engine>(
+    engine: &mut E,
+    context: &Context<'_>,
     text: &[u8],
     out: &mut [u8],
 ) -> Result<(), EngineFault>
     requires len { length out.old ≡ length text.now + 16 }
     ensures paid_or_refused { result
-        ≡ paid (cost (length front.now + length back.now) (length text.now)) (meaning E.Engine engine.old) tt }
+        ≡ paid (cost (length (joined context.now.data)) (length text.now)) (meaning E.Engine engine.old) tt }
     ensures sealed_written { OnOk result (out.new
-        ≡ sealed key.now nonce.now (front.now ++ back.now) text.now) }
+        ≡ sealed context.now.key.now context.now.nonce.now (joined context.now.data) text.now) }
     ensures runs_spent { meaning E.Engine engine.new
-        ≡ after (cost (length front.now + length back.now) (length text.now)) (E.words engine.new) (meaning E.Engine engine.old) }
+        ≡ after (cost (length (joined context.now.data)) (length text.now)) (E.words engine.new) (meaning E.Engine engine.old) }
 {
-    prepare(engine, key, nonce, front, back)?;
-    seal_text(engine, text, &mut out[0..text.len()])?;
-    let tag = finalize(engine, key)?;
-    out[text.len()..text.len() + 16].copy_from_slice(&tag);
+    let (ciphertext, tag) = out.split_at_mut(text.len());
+    ciphertext.copy_from_slice(text);
+    tag.copy_from_slice(&seal_in_place(engine, context, ciphertext)?);
     Ok(())
 }
 
-// The engine's refusal as one of the suite.
-fn lift(res: Result<(), EngineFault>) -> Result<(), SuiteFault>
-    ensures refusal_carried { result ≡ lifted res }
-{
-    res?;
-    Ok(())
-}
-
-// Seals a text under a key and a nonce, with associated data in two parts that count as joined. The output begins with the
-// ciphertext and the tag, whose length is the answer. Where the engine refuses a run, that part of the output is zero.
+// Seals a text under its context. The output begins with the ciphertext and the tag, whose length is the answer. Where the engine refuses
+// a run, that part of the output is zero.
+#[tactic(auto, using(crate::proofs::CallLaws::opening_undoes_sealing, crate::proofs::Published::published_answer, crate::proofs::Outcomes::seals_long, crate::proofs::Outcomes::seals_short))]
 pub fn seal<E: Engine>(
     engine: &mut E,
-    key: &Block,
-    nonce: &Block,
-    front: &[u8],
-    back: &[u8],
+    context: &Context<'_>,
     text: &[u8],
     out: &mut [u8],
 ) -> Result<usize, SuiteFault>
     ensures sealed_or_refused { (result, out.new, meaning E.Engine engine.new)
-        ≡ sealing_of key.now nonce.now (front.now ++ back.now) text.now out.old (meaning E.Engine engine.old) }
+        ≡ sealing_of context.now.key.now context.now.nonce.now (joined context.now.data) text.now out.old (meaning E.Engine engine.old) }
     ensures opening_undoes_sealing { OpeningUndoesSealing }
     ensures published_answer { PublishedAnswer }
 {
-    seal_or_refuse(engine, key, nonce, front, back, text, out)
-}
-
-fn seal_or_refuse<E: Engine>(
-    engine: &mut E,
-    key: &Block,
-    nonce: &Block,
-    front: &[u8],
-    back: &[u8],
-    text: &[u8],
-    out: &mut [u8],
-) -> Result<usize, SuiteFault>
-    ensures sealed_or_refused { (result, out.new, meaning E.Engine engine.new)
-        ≡ sealing_of key.now nonce.now (front.now ++ back.now) text.now out.old (meaning E.Engine engine.old) }
-{
-    within_limits(front.len(), back.len(), text.len())?;
+    if too_long(context.data.len(), text.len()) {
+        return Err(SuiteFault::InputTooLong);
+    }
     let size = text.len() + 16;
     if out.len() < size {
         return Err(SuiteFault::OutputTooShort);
     }
     let runs = completed_runs(engine);
-    let part = &mut out[0..size];
-    let result = lift(seal_steps(engine, key, nonce, front, back, text, part));
+    let part = &mut out[..size];
+    let result = seal_into(engine, context, text, part).map_err(SuiteFault::from);
     settle(engine, runs, part, result)
 }

@@ -1,24 +1,36 @@
 // Blocks of 16 bytes and the two words that they make, lowest byte first.
-ghost use Rattle.std.specs.Prelude.{◌≡◌, ◌++◌, drop};
+ghost use Rattle.std.specs.Prelude.{◌≡◌, [], ◌∷◌, ◌++◌, drop};
 ghost use Rattle.aead.specs.Bytes.{bytes_of, word};
 
 // A block of text, a key, a nonce or a tag.
 pub type Block = [u8; 16];
 
-// The word of the first eight bytes.
-pub(crate) fn low_word(block: &Block) -> u64
-    ensures low_word_is { result ≡ word block.now }
+// The words of the first and of the last eight bytes.
+pub(crate) fn words(block: &Block) -> [u64; 2]
+    ensures words_are { result ≡ word block.now ∷ word (drop 8 block.now) ∷ [] }
 {
-    let [b0, b1, b2, b3, b4, b5, b6, b7, ..] = *block;
-    u64::from_le_bytes([b0, b1, b2, b3, b4, b5, b6, b7])
-}
-
-// The word of the last eight bytes.
-pub(crate) fn high_word(block: &Block) -> u64
-    ensures high_word_is { result ≡ word (drop 8 block.now) }
-{
-    let [_, _, _, _, _, _, _, _, b0, b1, b2, b3, b4, b5, b6, b7] = *block;
-    u64::from_le_bytes([b0, b1, b2, b3, b4, b5, b6, b7])
+    let [
+        a0,
+        a1,
+        a2,
+        a3,
+        a4,
+        a5,
+        a6,
+        a7,
+        b0,
+        b1,
+        b2,
+        b3,
+        b4,
+        b5,
+        b6,
+        b7,
+    ] = *block;
+    [
+        u64::from_le_bytes([a0, a1, a2, a3, a4, a5, a6, a7]),
+        u64::from_le_bytes([b0, b1, b2, b3, b4, b5, b6, b7]),
+    ]
 }
 
 // The bytes of two words.
@@ -26,7 +38,7 @@ pub(crate) fn pair(low: u64, high: u64) -> Block
     ensures bytes_are { result ≡ bytes_of low ++ bytes_of high }
 {
     let mut block = [0; 16];
-    block[0..8].copy_from_slice(&low.to_le_bytes());
-    block[8..16].copy_from_slice(&high.to_le_bytes());
+    block[..8].copy_from_slice(&low.to_le_bytes());
+    block[8..].copy_from_slice(&high.to_le_bytes());
     block
 }

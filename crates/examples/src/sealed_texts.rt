@@ -1,5 +1,5 @@
 // Sealed texts: the limits of length, and that a refusal before the first run changes nothing.
-use aead::{open, seal};
+use aead::{Context, Joined, open, seal};
 use engine::Engine;
 use engines::WordEngine;
 use std::test::Fail;
@@ -15,9 +15,17 @@ fn texts_of_16777216_bytes_are_within_the_limit(rt: HostRuntime) -> Result<(), F
     assert!(rt; long.len() == LIMIT + 1);
     let text = long.as_slice();
     let key = [0; 16];
-    let too_long = seal(&mut engine, &key, &key, &[], &[], text, &mut []);
+    let context = Context {
+        key: &key,
+        nonce: &key,
+        data: Joined {
+            front: &[],
+            back: &[],
+        },
+    };
+    let too_long = seal(&mut engine, &context, text, &mut []);
     assert_eq!(rt; too_long, Err(SuiteFault::InputTooLong));
-    let no_room = seal(&mut engine, &key, &key, &[], &[], &text[1..], &mut []);
+    let no_room = seal(&mut engine, &context, &text[1..], &mut []);
     assert_eq!(rt; no_room, Err(SuiteFault::OutputTooShort));
     assert_eq!(rt; engine.read(4)?, 5);
     Ok(())
@@ -28,25 +36,17 @@ fn joined_data_counts(rt: HostRuntime) -> Result<(), Fail> {
     let mut engine = WordEngine::new();
     let long = vec![in rt.alloc(); 0u8; LIMIT]?;
     let key = [0; 16];
-    let too_long = open(
-        &mut engine,
-        &key,
-        &key,
-        long.as_slice(),
-        &[0],
-        &[0; 16],
-        &mut [],
-    );
+    let context = Context {
+        key: &key,
+        nonce: &key,
+        data: Joined {
+            front: long.as_slice(),
+            back: &[0],
+        },
+    };
+    let too_long = open(&mut engine, &context, &[0; 16], &mut []);
     assert_eq!(rt; too_long, Err(SuiteFault::InputTooLong));
-    let untagged = open(
-        &mut engine,
-        &key,
-        &key,
-        long.as_slice(),
-        &[0],
-        &[0; 15],
-        &mut [],
-    );
+    let untagged = open(&mut engine, &context, &[0; 15], &mut []);
     assert_eq!(rt; untagged, Err(SuiteFault::TagMissing));
     Ok(())
 }

@@ -1,6 +1,6 @@
-use Rattle.std.proofs.Common.{◌≡◌, ℕ, ◌<◌, get_or}
-use lib.Bits.{bit_xor}
+use Rattle.std.proofs.Common.{◌≡◌, ◌++◌, take, drop}
+use Rattle.aead.specs.Bytes.{xored}
 use Rattle.aead.proofs.opening.uncover.Given as goal
 
 abbrev pub invariant-loop-i : goal.invariant-loop-i
-invariant-loop-i l = (k : ℕ) → k < l.i → get_or l.out k 0 ≡ bit_xor (get_or l.sealed k 0) (get_or l.mask k 0)
+invariant-loop-i l = l.bytes ≡ xored (take l.i l.initial.bytes) l.mask ++ drop l.i l.initial.bytes

@@ -1,11 +1,12 @@
-use Rattle.std.proofs.Common.{◌≡◌, true, ◌++◌}
+use Rattle.std.proofs.Common.{◌≡◌, true}
 use Rattle.engine.specs.Of.{meaning}
 use Rattle.engine.specs.Runs.{after, has}
 use Rattle.aead.specs.Blocks.{after_blocks}
+use Rattle.aead.specs.Data.{joined}
 use Rattle.aead.proofs.steps.absorb_blocks.Given as goal
 
-abbrev pub invariant-loop-i : goal.invariant-loop-i
-invariant-loop-i g l =
+abbrev pub invariant-loop-index : goal.invariant-loop-index
+invariant-loop-index g l =
     (meaning g.E.Engine l.engine
-    ≡ after l.i (after_blocks l.i (g.E.Engine.words l.initial.engine) (l.front ++ l.back)) (meaning g.E.Engine l.initial.engine))
-    × (has l.i (meaning g.E.Engine l.initial.engine) ≡ true)
+    ≡ after l.index (after_blocks l.index (g.E.Engine.words l.initial.engine) (joined l.parts)) (meaning g.E.Engine l.initial.engine))
+    × (has l.index (meaning g.E.Engine l.initial.engine) ≡ true)
