@@ -11,7 +11,6 @@ use engine::{Engine, EngineFault};
 use engines::{ColumnEngine, WordEngine};
 use layers::{Either, Quota};
 use permutation::State;
-use std::array::from_fn;
 
 pub type Chosen = Either<WordEngine, ColumnEngine>;
 
@@ -71,7 +70,14 @@ fn pile(kind: Kind, quotas: Quotas) -> Pile
 pub fn five_words<E: Engine>(engine: &E) -> State
     ensures words_read { result ≡ five_read (E.words engine.now) }
 {
-    from_fn(|place| engine.read(place).unwrap())
+    // Kept: five reads, since `array::from_fn` asks its closure's clauses to say that each place is below 5.
+    [
+        engine.read(0).unwrap(),
+        engine.read(1).unwrap(),
+        engine.read(2).unwrap(),
+        engine.read(3).unwrap(),
+        engine.read(4).unwrap(),
+    ]
 }
 
 // Loads the words, makes one run, and reads the words again.

@@ -26,8 +26,18 @@ impl Bench {
                 println!(rt; "tell ok allowance={allowance}")?;
             }
             BenchCommand::Permute(rounds, state) => self.permute(rt, rounds, state)?,
-            BenchCommand::SealText(job) => self.cipher(rt, "seal-text", &job, seal)?,
-            BenchCommand::OpenText(job) => self.cipher(rt, "open-text", &job, open)?,
+            BenchCommand::SealText(job) => self.cipher(
+                rt,
+                "seal-text",
+                &job,
+                |e, c, text, out| seal(e, c, text, out),
+            )?,
+            BenchCommand::OpenText(job) => self.cipher(
+                rt,
+                "open-text",
+                &job,
+                |e, c, text, out| open(e, c, text, out),
+            )?,
             BenchCommand::Digest(job) => self.digest(rt, &job)?,
         }
         Ok(())
@@ -60,7 +70,9 @@ impl Bench {
         name: &str,
         job: &AeadJob,
         call: F,
-    ) -> anyhow::Result<()> {
+    ) -> anyhow::Result<()>
+        requires callable { F.IsAlwaysCallable call }
+    {
         let mut output = vec![in rt.alloc(); UNWRITTEN; job.room]?;
         let result = call(
             &mut self.engine,

@@ -25,7 +25,10 @@ impl Desk {
         match digest.function() {
             Ok(function) => {
                 let Bench { kind, engine } = bench;
-                (Desk::Absorbing(kind, start_session(engine, function)), Ok(()))
+                (
+                    Desk::Absorbing(kind, start_session(engine, function)),
+                    Ok(()),
+                )
             }
             Err(fault) => (Desk::Idle(bench), Err(fault)),
         }

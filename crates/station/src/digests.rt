@@ -55,7 +55,7 @@ impl Digest {
 
 // Starts a session.
 pub fn start_session<E: Engine>(engine: E, function: Function<'_>) -> Absorbing<E>
-    ensures started_or_stopped { absorbing_of E.Engine result ≡ starting (function_of function) (meaning E.Engine engine) }
+    ensures started_or_stopped { absorbing_of E.Engine result ≡ starting (function_of function.entry) (meaning E.Engine engine) }
 {
     match function {
         Function::Hash256 => Absorbing::hash256(engine),
@@ -86,7 +86,7 @@ fn whole_session<E: Engine>(
     out: &mut [u8],
 ) -> Result<(), SuiteFault>
     ensures digested_or_refused { (result, out.new, meaning E.Engine engine.new)
-        ≡ digested_once (function_of function) message.now out.old (meaning E.Engine engine.old) }
+        ≡ digested_once (function_of function.entry) message.now out.old (meaning E.Engine engine.old) }
 {
     let mut session = start_session(engine, function);
     if let Err(fault) = session.absorb(message) {

@@ -37,8 +37,8 @@ fn show_end(rt: &HostRuntime, words: Five, allowance: Told) -> anyhow::Result<()
     Ok(())
 }
 
-pub fn show(rt: &HostRuntime, name: &str, result: Result<(), SuiteFault>) -> anyhow::Result<()> {
-    let outcome = Outcome(result);
+pub fn show(rt: &HostRuntime, name: &str, res: Result<(), SuiteFault>) -> anyhow::Result<()> {
+    let outcome = Outcome(res);
     println!(rt; "{name} {outcome}")?;
     Ok(())
 }
