@@ -20,6 +20,7 @@ fn look_up(x: State) -> State
     ensures all_columns_gathered { result ≡ gathered x 64 }
 {
     let mut y = [0; 5];
+    // Kept: `j` is the number of a column and indexes nothing; a `fold` over it would hide that the columns are set one by one.
     for j in 0..64 {
         let replacement = entry(column_at(&x, j));
         set_column(&mut y, j, u64::from(replacement));

@@ -1,4 +1,6 @@
 // The commands.
+ghost use Rattle.std.specs.Prelude.{◌≡◌};
+
 use crate::digests::Digest;
 use crate::line::Reason;
 use aead::{Block, Context, Joined};
@@ -54,7 +56,11 @@ pub struct AeadJob {
 }
 
 impl AeadJob {
-    pub fn context(&self) -> Context<'_> {
+    // What the text is sealed under.
+    pub fn context(&self) -> Context<'_>
+        ensures key_and_nonce { (result.key.now ≡ self.now.key) × (result.nonce.now ≡ self.now.nonce) }
+        ensures both_parts { (result.data.front.now ≡ self.now.front.items) × (result.data.back.now ≡ self.now.back.items) }
+    {
         Context {
             key: &self.key,
             nonce: &self.nonce,
