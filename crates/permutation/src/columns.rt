@@ -11,11 +11,13 @@ use crate::tables::SBOX;
 pub struct Columns;
 
 impl Substitution for Columns {
+    #[tactic(auto, using(crate::proofs::Gathered::gathered_all))]
     fn substituted(x: State) -> State {
         look_up(x)
     }
 }
 
+#[tactic(auto, using(crate::proofs::Gathered::gathered_none, crate::proofs::Gathered::gathered_more))]
 fn look_up(x: State) -> State
     ensures all_columns_gathered { result ≡ gathered x 64 }
 {
