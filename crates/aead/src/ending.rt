@@ -29,7 +29,7 @@ pub(crate) fn settle<E: Engine>(
         ≡ (if is_ok res then out.old else replicate (length out.old) 0) }
     ensures words_wiped { meaning E.Engine engine.new ≡ wiped (meaning E.Engine engine.old) }
 {
-    engine.load(0, 0, 0, 0, 0);
+    engine.load([0; 5]);
     match res {
         Ok(()) => Ok(out.len()),
         Err(fault) => {

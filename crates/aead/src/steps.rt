@@ -58,7 +58,7 @@ fn initialize<E: Engine>(engine: &mut E, key: &Block, nonce: &Block) -> Result<(
 {
     let [k0, k1] = words(key);
     let [n0, n1] = words(nonce);
-    engine.load(START, k0, k1, n0, n1);
+    engine.load([START, k0, k1, n0, n1]);
     engine.run(12)?;
     engine.mix(3, k0)?;
     engine.mix(4, k1)?;

@@ -6,6 +6,7 @@ use digest::{Absorbing, Squeezing};
 use engine::Engine;
 use suite::SuiteFault;
 
+// Kept: its two cases are the two phases, and neither is a failure or an absence, so it is no `Result` and no `Option`.
 pub enum Session<E> {
     Taking(Absorbing<E>),
     Giving(Squeezing<E>),
@@ -19,7 +20,7 @@ impl<E: Engine> Session<E> {
     {
         match self {
             Session::Taking(taking) => taking.absorb(piece),
-            Session::Giving(_) => unreachable(),
+            Session::Giving(_) => unreachable!(),
         }
     }
 
@@ -29,7 +30,7 @@ impl<E: Engine> Session<E> {
         ensures still_gives_output { gives self.new ≡ true }
     {
         match self {
-            Session::Taking(_) => unreachable(),
+            Session::Taking(_) => unreachable!(),
             Session::Giving(giving) => giving.squeeze(out),
         }
     }

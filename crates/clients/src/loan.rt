@@ -9,6 +9,7 @@ use suite::SuiteFault;
 
 // Ascon-Hash256 of a message, as many bytes as the output has. The session owns the loan while it lasts; when it ends, the owner finds the
 // engine as the session left it, with zero words.
+// Kept: the calls stand here one by one, though the console has a session like it, since each misuse in tests/misuse is an edit of one.
 pub fn hash_on_loan<E: Engine>(
     engine: &mut E,
     message: &[u8],

@@ -14,11 +14,15 @@ pub record Function : Type 0 where
 unfoldable pub customized : List ℕ → List ℕ → List ℕ
 customized ws custom = permuted 12 (after_message (permuted 12 (mixed 0 (length custom * 8) ws)) custom)
 
+-- a function that begins with a start value alone
+abbrev pub plain : ℕ → ℕ → Function
+plain value limit = record { start = initialized value; runs = 1; limit = limit }
+
 abbrev pub hash256 : Function
-hash256 = record { start = initialized 0x0000080100cc0002; runs = 1; limit = 32 }
+hash256 = plain 0x0000080100cc0002 32
 
 abbrev pub xof128 : Function
-xof128 = record { start = initialized 0x0000080000cc0003; runs = 1; limit = 16777216 }
+xof128 = plain 0x0000080000cc0003 16777216
 
 abbrev pub cxof128 : List ℕ → Function
 cxof128 custom =

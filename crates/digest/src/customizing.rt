@@ -21,7 +21,6 @@ pub(crate) fn customize<E: Engine>(
         ≡ customized (initialized value) custom.entry.bytes.now) }
     ensures runs_spent { meaning E.Engine engine.new
         ≡ after (3 + whole_blocks custom.entry.bytes.now) (E.words engine.new) (meaning E.Engine engine.old) }
-    ensures same_lender { E.lender engine.new ≡ E.lender engine.old }
 {
     let bytes = custom.bytes();
     let mut block = Block::empty();

@@ -7,6 +7,7 @@
 
 mod customization;
 mod customizing;
+mod message;
 mod session;
 
 pub use customization::Customization;

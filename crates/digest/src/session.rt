@@ -1,32 +1,30 @@
 // Digest sessions: the two types. A session owns its engine. It cannot be copied, only the calls of this crate make one, and it is let go
 // only by ending it, which gives the engine back.
-ghost use Rattle.std.specs.Prelude.{◌≤◌};
+//
+// Kept: they are two types, and share no generic one, since a message piece after output must not compile.
+ghost use Rattle.std.specs.Prelude.{◌≤◌, IfSome};
+ghost use Rattle.std.proofs.Props.{props};
 
-use sponge::Block;
+use crate::message::Message;
 
 mod ending;
 mod message;
 mod output;
-mod questions;
 mod start;
 
-// A session that takes a message.
+// A session that takes a message. A stopped one keeps nothing of it.
 pub struct Absorbing<E> {
     engine: E,
-    block: Block,
-    taken: usize,
+    message: Option<Message>,
     limit: usize,
-    stopped: bool,
-    ghost message_bounded: { taken ≤ 16777216 },
     ghost output_bounded: { limit ≤ 16777216 },
 }
 
-// A session that gives output.
+// A session that gives output, and how many bytes it gave. A stopped one keeps no count.
 pub struct Squeezing<E> {
     engine: E,
-    given: usize,
+    given: Option<usize>,
     limit: usize,
-    stopped: bool,
-    ghost within_limit: { given ≤ limit },
+    ghost within_limit: { IfSome given (λ n. n ≤ limit) } by { Prim.hlevel props },
     ghost output_bounded: { limit ≤ 16777216 },
 }

@@ -4,4 +4,4 @@ use Rattle.engine.specs.Meaning.{Meaning, joined}
 use Rattle.engine.specs.declared.interface.Engine.{Ghosts}
 
 abbrev pub meaning : {E : Type 0} → Ghosts E → E → Meaning
-meaning g e = joined g.words g.allowance e
+meaning g e = joined g.words g.allowance g.loans e

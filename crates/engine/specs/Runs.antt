@@ -12,7 +12,7 @@ has n m = covers n m.allowance
 
 -- an engine after n runs, with the words that they and the mixing between them left
 abbrev pub after : ℕ → List ℕ → Meaning → Meaning
-after n ws m = record { words = ws; allowance = lowered n m.allowance }
+after n ws m = record { words = ws; allowance = lowered n m.allowance; loans = m.loans }
 
 -- the refusal that comes when an engine lacks a run
 abbrev pub refusal : Meaning → EngineFault

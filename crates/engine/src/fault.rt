@@ -1,6 +1,7 @@
 // The refusals of an engine. Each has a number, a layer and a place, which specs/Facts.antt gives case by case.
-ghost use Rattle.std.specs.Prelude.{◌≡◌};
-ghost use Rattle.engine.specs.Facts.{facts};
+ghost use Rattle.engine.specs.Facts.{facts as listed};
+
+use crate::refusal::Refusal;
 
 // The layer of the part whose rule a refusal reports.
 #[derive(Clone, Copy, PartialEq, Eq, Debug)]
@@ -20,10 +21,11 @@ pub enum EngineFault {
     NoRunsLeft,
 }
 
-impl EngineFault {
-    pub fn number(&self) -> u8
-        ensures listed_number { result ≡ (facts self.now).number }
-    {
+impl Refusal for EngineFault {
+    ghost facts = { listed };
+
+    // Kept: every refusal has its number outside the program, which the definition lists; inside, the enum is used.
+    fn number(&self) -> u8 {
         match self {
             EngineFault::NoSuchWord => 1,
             EngineFault::RoundsOutOfRange => 2,
@@ -31,15 +33,11 @@ impl EngineFault {
         }
     }
 
-    pub fn layer(&self) -> Layer
-        ensures listed_layer { result ≡ (facts self.now).layer }
-    {
+    fn layer(&self) -> Layer {
         Layer::Engine
     }
 
-    pub fn place(&self) -> u64
-        ensures listed_place { result ≡ (facts self.now).place }
-    {
+    fn place(&self) -> u64 {
         0
     }
 }

@@ -1,10 +1,11 @@
 // What every engine means and owes.
-ghost use Rattle.std.specs.Prelude.{◌≡◌, ℕ, List};
+ghost use Rattle.std.specs.Prelude.{◌≡◌, ℕ, List, []};
 ghost use Rattle.engine.specs.Meaning.{joined, loaded, mix, read, run};
 ghost use Rattle.engine.specs.declared.allowance.Allowance.{Allowance};
 
 use crate::allowance::Allowance;
 use crate::fault::EngineFault;
+use permutation::State;
 
 // An engine means five words and an allowance, and owes exactly what the five calls promise of them.
 pub trait Engine {
@@ -14,25 +15,23 @@ pub trait Engine {
     // The runs that it still makes.
     ghost allowance: { Self → Allowance };
 
-    // Which loan an engine is reached through, where it is lent. No call changes it, so that the owner knows the engine again when the
-    // loan ends. An engine that is not reached through a loan leaves this as it is.
-    ghost lender: { Self → ℕ } = { λ _. 0 };
+    // The loans that an engine is reached through, the last first. No call changes them, so that the owner of a lent engine knows it again
+    // when the loan ends. An engine that is not reached through a loan leaves this as it is.
+    ghost loans: { Self → List ℕ } = { λ _. [] };
 
     // Sets the five words.
-    fn load(&mut self, w0: u64, w1: u64, w2: u64, w3: u64, w4: u64)
-        ensures five_words_set { joined words allowance self.new
-            ≡ loaded w0 w1 w2 w3 w4 (joined words allowance self.old) }
-        ensures same_lender { lender self.new ≡ lender self.old };
+    fn load(&mut self, state: State)
+        ensures five_words_set { joined words allowance loans self.new
+            ≡ loaded state (joined words allowance loans self.old) };
 
     // XORs a value into the word at a place.
     fn mix(&mut self, place: usize, value: u64) -> Result<(), EngineFault>
-        ensures value_mixed_or_unchanged { (result, joined words allowance self.new)
-            ≡ mix place value (joined words allowance self.old) }
-        ensures same_lender { lender self.new ≡ lender self.old };
+        ensures value_mixed_or_unchanged { (result, joined words allowance loans self.new)
+            ≡ mix place value (joined words allowance loans self.old) };
 
     // Answers the word at a place.
     fn read(&self, place: usize) -> Result<u64, EngineFault>
-        ensures word_answered { result ≡ read place (joined words allowance self.now) };
+        ensures word_answered { result ≡ read place (joined words allowance loans self.now) };
 
     // Answers the allowance.
     fn tell(&self) -> Allowance
@@ -40,7 +39,6 @@ pub trait Engine {
 
     // Makes 1 to 16 rounds of the permutation, and lowers a numbered allowance by 1.
     fn run(&mut self, rounds: usize) -> Result<(), EngineFault>
-        ensures run_made_or_unchanged { (result, joined words allowance self.new)
-            ≡ run rounds (joined words allowance self.old) }
-        ensures same_lender { lender self.new ≡ lender self.old };
+        ensures run_made_or_unchanged { (result, joined words allowance loans self.new)
+            ≡ run rounds (joined words allowance loans self.old) };
 }

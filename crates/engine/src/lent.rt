@@ -1,17 +1,20 @@
 // An engine that is lent is an engine: what owns its engine can be given a loan.
+ghost use Rattle.std.specs.Prelude.{◌∷◌};
+
 use crate::allowance::Allowance;
 use crate::fault::EngineFault;
 use crate::interface::Engine;
+use permutation::State;
 
 impl<E: Engine> Engine for &mut E {
     ghost words = { λ e. E.Engine.words e.now };
 
     ghost allowance = { λ e. E.Engine.allowance e.now };
 
-    ghost lender = { λ e. e.ghost_name };
+    ghost loans = { λ e. e.ghost_name ∷ E.Engine.loans e.now };
 
-    fn load(&mut self, w0: u64, w1: u64, w2: u64, w3: u64, w4: u64) {
-        (**self).load(w0, w1, w2, w3, w4);
+    fn load(&mut self, state: State) {
+        (**self).load(state);
     }
 
     fn mix(&mut self, place: usize, value: u64) -> Result<(), EngineFault> {

@@ -8,9 +8,11 @@ pub mod allowance;
 pub mod fault;
 mod interface;
 mod lent;
+mod refusal;
 mod runs;
 
 pub use allowance::Allowance;
 pub use fault::{EngineFault, Layer};
 pub use interface::Engine;
-pub use runs::completed_runs;
+pub use refusal::Refusal;
+pub use runs::{check_rounds, completed_runs};

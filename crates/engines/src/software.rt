@@ -3,7 +3,7 @@ ghost use Rattle.std.specs.Prelude.{◌≡◌};
 ghost use Rattle.engine.specs.Runs.{zero_words};
 ghost use Rattle.engine.specs.declared.allowance.Allowance.TheVariants.{Unlimited};
 
-use engine::{Allowance, Engine, EngineFault};
+use engine::{Allowance, Engine, EngineFault, check_rounds};
 use permutation::{Columns, State, Substitution, Words, permute};
 use std::marker::PhantomData;
 
@@ -36,10 +36,11 @@ impl<S: Substitution> Engine for Software<S> {
 
     ghost allowance = { λ _. Unlimited };
 
-    fn load(&mut self, w0: u64, w1: u64, w2: u64, w3: u64, w4: u64) {
-        self.words = [w0, w1, w2, w3, w4];
+    fn load(&mut self, state: State) {
+        self.words = state;
     }
 
+    #[tactic(auto, unfolding(engine::specs::Meaning::mixed))]
     fn mix(&mut self, place: usize, value: u64) -> Result<(), EngineFault> {
         if place >= 5 {
             return Err(EngineFault::NoSuchWord);
@@ -49,10 +50,10 @@ impl<S: Substitution> Engine for Software<S> {
     }
 
     fn read(&self, place: usize) -> Result<u64, EngineFault> {
-        if place >= 5 {
-            return Err(EngineFault::NoSuchWord);
-        }
-        Ok(self.words[place])
+        self.words
+            .get(place)
+            .copied()
+            .ok_or(EngineFault::NoSuchWord)
     }
 
     fn tell(&self) -> Allowance {
@@ -60,9 +61,7 @@ impl<S: Substitution> Engine for Software<S> {
     }
 
     fn run(&mut self, rounds: usize) -> Result<(), EngineFault> {
-        if rounds < 1 || rounds > 16 {
-            return Err(EngineFault::RoundsOutOfRange);
-        }
+        check_rounds(rounds)?;
         permute::<S>(&mut self.words, rounds);
         Ok(())
     }

@@ -56,12 +56,9 @@ const CXOF128: State = [
 ];
 
 fn check_words<E: Engine>(rt: &impl Abort, engine: &E, words: State) -> Result<(), Fail> {
-    let [w0, w1, w2, w3, w4] = words;
-    assert_eq!(rt; engine.read(0)?, w0);
-    assert_eq!(rt; engine.read(1)?, w1);
-    assert_eq!(rt; engine.read(2)?, w2);
-    assert_eq!(rt; engine.read(3)?, w3);
-    assert_eq!(rt; engine.read(4)?, w4);
+    for (place, word) in words.iter().enumerate() {
+        assert_eq!(rt; engine.read(place)?, *word);
+    }
     Ok(())
 }
 
@@ -72,15 +69,13 @@ fn check_run<E: Engine>(
     rounds: usize,
     to: State,
 ) -> Result<(), Fail> {
-    let [w0, w1, w2, w3, w4] = from;
-    engine.load(w0, w1, w2, w3, w4);
+    engine.load(from);
     engine.run(rounds)?;
     check_words(rt, engine, to)
 }
 
 fn check_refused<E: Engine>(rt: &impl Abort, engine: &mut E, rounds: usize) -> Result<(), Fail> {
-    let [w0, w1, w2, w3, w4] = START;
-    engine.load(w0, w1, w2, w3, w4);
+    engine.load(START);
     assert_eq!(rt; engine.run(rounds), Err(EngineFault::RoundsOutOfRange));
     check_words(rt, engine, START)
 }

@@ -10,7 +10,7 @@ const LIMIT: usize = 16_777_216;
 #[test]
 fn texts_of_16777216_bytes_are_within_the_limit(rt: HostRuntime) -> Result<(), Fail> {
     let mut engine = WordEngine::new();
-    engine.load(1, 2, 3, 4, 5);
+    engine.load([1, 2, 3, 4, 5]);
     let long = vec![in rt.alloc(); 0u8; LIMIT + 1]?;
     assert!(rt; long.len() == LIMIT + 1);
     let text = long.as_slice();

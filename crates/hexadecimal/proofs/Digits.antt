@@ -1,27 +1,30 @@
--- A text that passes the test digit by digit has digits at every place, and the other way round.
+-- Hexadecimal digits and their values.
 -- Assumes nothing.
-use Rattle.std.proofs.Common.{◌≡◌, ℕ, zero, suc, ◌<◌, Bool, true, ◌&&◌, ltb, List, [], ◌∷◌, length, get_or, fold, arith}
-use Rattle.std.proofs.lemmas.Bool.{and_from, and_parts, lt-ltb, ltb-true}
-use Rattle.std.specs.Char.{digit_value}
+use Rattle.std.proofs.Common.{◌≡◌, ℕ, zero, suc, ◌+◌, ◌*◌, ◌/◌, ◌<◌, true, List, [], length, get_or, take, drop, refl, ap, ◌∙◌, arith}
+use Rattle.std.proofs.lemmas.Bool.{and_parts}
+use Rattle.std.proofs.lemmas.Bool.Decides.{nat_tests}
+use Rattle.std.proofs.lemmas.List.{drop-drop, get_or-take, get_or-drop}
+use Rattle.std.proofs.lemmas.List.Sums.{AllPass-from_list_all}
+use Rattle.std.specs.Char.{digit_char, digit_value, is_ascii_hexdigit}
+use Rattle.std.specs.Simd.{first_chunks}
+use Rattle.hexadecimal.specs.Hexadecimal.{is_hex}
 
-abbrev pub step : Bool → ℕ → Bool
-step ok c = ok && ltb (digit_value c) 16
+pub hexdigit_value : (c : ℕ) → is_ascii_hexdigit c ≡ true → digit_value c < 16
+hexdigit_value c h = grind (arith, nat_tests)
 
-abbrev pub Digits : List ℕ → Type 0
-Digits cs = (k : ℕ) → k < length cs → digit_value (get_or cs k 0) < 16
+pub hexdigit_of : (d : ℕ) → d < 16 → is_ascii_hexdigit (digit_char d) ≡ true
+hexdigit_of d h = grind (arith, nat_tests)
 
-pub passed_first : (ok : Bool) (cs : List ℕ) → fold step ok cs ≡ true → ok ≡ true
-passed_first ok [] e = e
-passed_first ok (c ∷ cs) e = (and_parts ok (ltb (digit_value c) 16) (passed_first (step ok c) cs e)).0
+pair_at : (n i : ℕ) (cs : List ℕ) → i < n → get_or (first_chunks 2 n cs) i [] ≡ take 2 (drop (i * 2) cs)
+pair_at zero i cs h = absurd (omega arith)
+pair_at (suc n) zero cs h = refl
+pair_at (suc n) (suc i) cs h = pair_at n i (drop 2 cs) (omega arith) ∙ ap (take 2) (drop-drop (i * 2) 2 cs ∙ ap (λ (k : ℕ). drop k cs) (omega arith))
 
-pub digits_from_test : (ok : Bool) (cs : List ℕ) → fold step ok cs ≡ true → Digits cs
-digits_from_test ok [] e k h = omega arith
-digits_from_test ok (c ∷ cs) e zero h =
-    ltb-true (digit_value c) 16 (and_parts ok (ltb (digit_value c) 16) (passed_first (step ok c) cs e)).1
-digits_from_test ok (c ∷ cs) e (suc k) h = digits_from_test (step ok c) cs e k (omega arith)
-
-pub test_from_digits : (ok : Bool) (cs : List ℕ) → ok ≡ true → Digits cs → fold step ok cs ≡ true
-test_from_digits ok [] e d = e
-test_from_digits ok (c ∷ cs) e d =
-    test_from_digits (step ok c) cs (and_from ok (ltb (digit_value c) 16) e (lt-ltb (digit_value c) 16 (d zero (omega arith))))
-    (λ k h. d (suc k) (omega arith))
+-- each digit of each pair of a text of digits is a digit
+pub digit_of_pair : (cs : List ℕ) (i j : ℕ) → is_hex cs ≡ true → i < length cs / 2 → j < 2
+    → is_ascii_hexdigit (get_or (get_or (first_chunks 2 (length cs / 2) cs) i []) j 0) ≡ true
+digit_of_pair cs i j h in' low =
+    let e : get_or (get_or (first_chunks 2 (length cs / 2) cs) i []) j 0 ≡ get_or cs (i * 2 + j) 0 =
+    ap (λ (p : List ℕ). get_or p j 0) (pair_at (length cs / 2) i cs in') ∙ get_or-take 2 (drop (i * 2) cs) j 0 low ∙ get_or-drop (i * 2) cs j 0
+    in
+    ap is_ascii_hexdigit e ∙ AllPass-from_list_all is_ascii_hexdigit cs (and_parts _ _ h).1 (i * 2 + j) 0 (omega arith)

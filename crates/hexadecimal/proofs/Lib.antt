@@ -1,4 +1,3 @@
 mod Digits
-mod Filled
 mod Numerals
 mod RoundTrip

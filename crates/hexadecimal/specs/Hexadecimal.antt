@@ -1,23 +1,20 @@
 -- Bytes as hexadecimal digits: two for each byte, the high one first.
 -- Assumes nothing.
-use Rattle.std.specs.Prelude.{◌≡◌, ℕ, ◌+◌, ◌*◌, ◌/◌, ◌%◌, ◌<◌, ◌≤◌, Bool, true, cond, ◌&&◌, List, ◌++◌, map, length, drop, Ok, Err, fold, Result, ◌==◌, nat_le, nat_lt, slice_index}
-use Rattle.std.specs.List.{range_with_len}
-use Rattle.std.specs.Char.{digit_char, digit_value}
+use Rattle.std.specs.Prelude.{◌≡◌, ℕ, ◌+◌, ◌*◌, ◌/◌, ◌%◌, ◌<◌, ◌≤◌, Bool, cond, ◌&&◌, List, [], ◌∷◌, ◌++◌, map, length, drop, Ok, Err, Result, ◌==◌, nat_le, slice_index}
+use Rattle.std.specs.List.{flat_map, list_all}
+use Rattle.std.specs.Simd.{first_chunks}
+use Rattle.std.specs.Char.{digit_char, digit_value, is_ascii_hexdigit}
 use Rattle.hexadecimal.specs.declared.fault.HexFault.{HexFault}
 use Rattle.hexadecimal.specs.declared.fault.HexFault.TheVariants.{NotHex, OutputTooShort}
 
 -- ---- bytes to text
 
--- the half of a byte that digit k of the text writes
-abbrev pub nibble_at : List ℕ → ℕ → ℕ
-nibble_at bs k = cond (k % 2 == 0) (slice_index bs (k / 2) / 16) (slice_index bs (k / 2) % 16)
-
--- digit k of the text, in lower case
-abbrev pub digit_at : List ℕ → ℕ → ℕ
-digit_at bs k = digit_char (nibble_at bs k)
+-- the two digits of a byte, in lower case
+abbrev pub digits_of : ℕ → List ℕ
+digits_of b = digit_char (b / 16) ∷ digit_char (b % 16) ∷ []
 
 abbrev pub encoded : List ℕ → List ℕ
-encoded bs = map (digit_at bs) (range_with_len 0 (2 * length bs))
+encoded bs = flat_map digits_of bs
 
 -- the text, written to the front of an output that has room for it
 abbrev pub encode : List ℕ → List ℕ → Result ℕ HexFault × List ℕ
@@ -30,14 +27,14 @@ encode bs out =
 
 -- an even number of digits, in either case
 abbrev pub is_hex : List ℕ → Bool
-is_hex cs = fold (λ ok c. ok && nat_lt (digit_value c) 16) true cs && length cs % 2 == 0
+is_hex cs = length cs % 2 == 0 && list_all is_ascii_hexdigit cs
 
--- byte k of a text
-abbrev pub byte_at : List ℕ → ℕ → ℕ
-byte_at cs k = digit_value (slice_index cs (2 * k)) * 16 + digit_value (slice_index cs (2 * k + 1))
+-- the byte of two digits
+abbrev pub byte_of : List ℕ → ℕ
+byte_of pair = digit_value (slice_index pair 0) * 16 + digit_value (slice_index pair 1)
 
 abbrev pub bytes_of : List ℕ → List ℕ
-bytes_of cs = map (byte_at cs) (range_with_len 0 (length cs / 2))
+bytes_of cs = map byte_of (first_chunks 2 (length cs / 2) cs)
 
 -- the bytes, written to the front of an output that has room for them
 abbrev pub decode : List ℕ → List ℕ → Result ℕ HexFault × List ℕ

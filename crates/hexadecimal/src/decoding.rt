@@ -1,21 +1,15 @@
 // Digits to bytes.
-ghost use Rattle.std.specs.Prelude.{◌≡◌, ℕ, ◌*◌, ◌%◌, ◌<◌, true, length, slice_index};
-ghost use Rattle.std.specs.Char.{digit_value};
+ghost use Rattle.std.specs.Prelude.{◌≡◌, ◌*◌, ◌<◌, IsTrue, length};
+ghost use Rattle.std.specs.Char.{digit_value, is_ascii_hexdigit};
 ghost use Rattle.hexadecimal.specs.Hexadecimal.{GivesBack, bytes_of, decode, is_hex};
 
-use crate::digit::value;
 use crate::fault::HexFault;
 
 // Reads two digits for each byte, in either case, and answers how many bytes.
+#[tactic(auto, using(crate::proofs::RoundTrip::gives_back))]
 pub fn decode(text: &[u8], bytes: &mut [u8]) -> Result<usize, HexFault>
     ensures bytes_written_or_unchanged { (result, bytes.new) ≡ decode text.now bytes.old }
     ensures decoding_undoes_encoding { GivesBack }
-{
-    decode_text(text, bytes)
-}
-
-fn decode_text(text: &[u8], bytes: &mut [u8]) -> Result<usize, HexFault>
-    ensures bytes_written_or_unchanged { (result, bytes.new) ≡ decode text.now bytes.old }
 {
     if !is_hex(text) {
         return Err(HexFault::NotHex);
@@ -24,30 +18,36 @@ fn decode_text(text: &[u8], bytes: &mut [u8]) -> Result<usize, HexFault>
     if count > bytes.len() {
         return Err(HexFault::OutputTooShort);
     }
-    write_bytes(text, &mut bytes[0..count]);
+    write_bytes(text, &mut bytes[..count]);
     Ok(count)
 }
 
 // Whether the text is an even number of digits.
 fn is_hex(text: &[u8]) -> bool
     ensures hex_is { result ≡ is_hex text.now }
-    ensures digits_only { result
-        ≡ true → (k : ℕ) → k < length text.now → digit_value (slice_index text.now k) < 16 }
-    ensures even { result ≡ true → length text.now % 2 ≡ 0 }
 {
-    let mut digits = true;
-    for c in text {
-        digits = digits & (value(*c) < 16);
-    }
-    digits & (text.len() % 2 == 0)
+    text.len() % 2 == 0 && text.iter().all(|c| c.is_ascii_hexdigit())
 }
 
+#[tactic(auto, using(crate::proofs::Digits::digit_of_pair))]
 fn write_bytes(text: &[u8], bytes: &mut [u8])
-    requires half_the_digits { 2 * length bytes.old ≡ length text.now }
-    requires digits_only { (k : ℕ) → k < length text.now → digit_value (slice_index text.now k) < 16 }
+    requires half_the_digits { length text.now ≡ 2 * length bytes.old }
+    requires digits_only { IsTrue (is_hex text.now) }
     ensures all_bytes { bytes.new ≡ bytes_of text.now }
 {
-    for k in 0..bytes.len() {
-        bytes[k] = value(text[2 * k]) * 16 + value(text[2 * k + 1]);
+    let (pairs, _) = text.as_chunks::<2>();
+    // Kept: a write by index, since nothing is known of `bytes` after `bytes.iter_mut().zip(pairs)`.
+    for (k, [high, low]) in pairs.iter().enumerate() {
+        bytes[k] = value(*high) * 16 + value(*low);
     }
+}
+
+// The value of a digit, in either case.
+#[tactic(auto, using(crate::proofs::Digits::hexdigit_value))]
+fn value(digit: u8) -> u8
+    requires is_digit { IsTrue (is_ascii_hexdigit digit) }
+    ensures value_is { result ≡ digit_value digit }
+    ensures below_16 { result < 16 }
+{
+    char::from(digit).to_digit(16).unwrap() as u8
 }

@@ -1,7 +1,7 @@
 // Bytes to digits.
 ghost use Rattle.std.specs.Prelude.{◌≡◌, ◌*◌, ◌<◌, length};
 ghost use Rattle.std.specs.Char.{digit_char};
-ghost use Rattle.hexadecimal.specs.Hexadecimal.{digit_at, encode, encoded};
+ghost use Rattle.hexadecimal.specs.Hexadecimal.{encode, encoded};
 
 use crate::fault::HexFault;
 
@@ -13,40 +13,25 @@ pub fn encode(bytes: &[u8], text: &mut [u8]) -> Result<usize, HexFault>
         return Err(HexFault::OutputTooShort);
     }
     let count = bytes.len() * 2;
-    write_digits(bytes, &mut text[0..count]);
+    write_digits(bytes, &mut text[..count]);
     Ok(count)
 }
 
 fn write_digits(bytes: &[u8], text: &mut [u8])
-    requires { length text.old ≡ 2 * length bytes.now }
+    requires two_for_each { length text.old ≡ 2 * length bytes.now }
     ensures all_digits { text.new ≡ encoded bytes.now }
 {
-    for k in 0..text.len() {
-        text[k] = digit_at(bytes, k);
+    // Kept: writes by index, since nothing is known of `text` after `text.as_chunks_mut::<2>()`.
+    for (k, byte) in bytes.iter().enumerate() {
+        text[2 * k] = digit(*byte / 16);
+        text[2 * k + 1] = digit(*byte % 16);
     }
 }
 
-// Digit `k` of the text.
-fn digit_at(bytes: &[u8], k: usize) -> u8
-    requires { k < 2 * length bytes.now }
-    ensures digit_is { result ≡ digit_at bytes.now k }
-{
-    let byte = bytes[k / 2];
-    if k % 2 == 0 {
-        digit(byte / 16)
-    } else {
-        digit(byte % 16)
-    }
-}
-
-// The character of a value, in lower case.
+// The digit of a value, in lower case.
 fn digit(value: u8) -> u8
-    requires { value < 16 }
+    requires below_16 { value < 16 }
     ensures digit_is { result ≡ digit_char value }
 {
-    if value < 10 {
-        b'0' + value
-    } else {
-        b'a' + (value - 10)
-    }
+    char::from_digit(u32::from(value), 16).unwrap() as u8
 }

@@ -3,7 +3,6 @@
 #![tactic(auto)]
 
 mod decoding;
-mod digit;
 mod encoding;
 pub mod fault;
 mod number;

@@ -2,18 +2,11 @@
 ghost use Rattle.std.specs.Prelude.{◌≤◌};
 ghost use Rattle.hexadecimal.specs.Numbers.{OneMore, Parsed, PrintedIsRead, ReadsDigits};
 
-use crate::digit::value;
-
 // The number that a text writes, if it writes one below 2^64.
+#[tactic(auto, using(crate::proofs::Numerals::printing))]
 pub fn parse_number(text: &[u8]) -> Option<u64>
     ensures number_written { Parsed text.now result }
     ensures printed_is_read { PrintedIsRead text.now result }
-{
-    read_number(text)
-}
-
-fn read_number(text: &[u8]) -> Option<u64>
-    ensures number_written { Parsed text.now result }
 {
     match text {
         [b'0', b'x', digits @ ..] => parse_digits(digits, 16),
@@ -22,8 +15,10 @@ fn read_number(text: &[u8]) -> Option<u64>
 }
 
 // The number that digits write.
-fn parse_digits(digits: &[u8], radix: u8) -> Option<u64>
-    requires { 1 ≤ radix }
+#[tactic(auto, using(crate::proofs::Numerals::reading))]
+fn parse_digits(digits: &[u8], radix: u32) -> Option<u64>
+    requires two_or_more { 2 ≤ radix }
+    requires at_most_16 { radix ≤ 16 }
     ensures number_written { ReadsDigits radix digits.now result }
 {
     if digits.is_empty() {
@@ -37,13 +32,12 @@ fn parse_digits(digits: &[u8], radix: u8) -> Option<u64>
 }
 
 // The number that one digit more writes.
-fn one_more(number: u64, digit: u8, radix: u8) -> Option<u64>
+fn one_more(number: u64, digit: u8, radix: u32) -> Option<u64>
+    requires two_or_more { 2 ≤ radix }
+    requires at_most_16 { radix ≤ 16 }
     ensures number_written { OneMore radix number digit result }
 {
-    let value = value(digit);
-    if value >= radix {
-        return None;
-    }
+    let value = char::from(digit).to_digit(radix)?;
     number
         .checked_mul(u64::from(radix))?
         .checked_add(u64::from(value))

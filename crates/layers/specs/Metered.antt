@@ -11,7 +11,7 @@ use Rattle.layers.specs.declared.quota.Quota.{Quota}
 
 -- what a quota means: the words below, and the smaller of its count and the allowance below
 abbrev pub limited : {E : Type 0} → Ghosts E → Quota E → Meaning
-limited g q = record { words = g.words q.engine; allowance = smaller q.count (g.allowance q.engine) }
+limited g q = record { words = g.words q.engine; allowance = smaller q.count (g.allowance q.engine); loans = g.loans q.engine }
 
 -- the count, and what the engine below means
 pub record Metered : Type 0 where

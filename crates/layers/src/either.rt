@@ -2,24 +2,28 @@
 ghost use Rattle.layers.specs.Chosen.{chosen};
 
 use engine::{Allowance, Engine, EngineFault};
+use permutation::State;
 
+// Kept: neither case is a failure or an absence, so it is no `Result` and no `Option`.
 #[derive(Drop)]
 pub enum Either<A, B> {
     First(A),
     Second(B),
 }
 
+// Kept: each call is a `match`, since the two engines have two types: one closure cannot serve both, and a `dyn Engine` that is made and
+// kept would want the heap.
 impl<A: Engine, B: Engine> Engine for Either<A, B> {
     ghost words = { chosen A.Engine.words B.Engine.words };
 
     ghost allowance = { chosen A.Engine.allowance B.Engine.allowance };
 
-    ghost lender = { chosen A.Engine.lender B.Engine.lender };
+    ghost loans = { chosen A.Engine.loans B.Engine.loans };
 
-    fn load(&mut self, w0: u64, w1: u64, w2: u64, w3: u64, w4: u64) {
+    fn load(&mut self, state: State) {
         match self {
-            Either::First(engine) => engine.load(w0, w1, w2, w3, w4),
-            Either::Second(engine) => engine.load(w0, w1, w2, w3, w4),
+            Either::First(engine) => engine.load(state),
+            Either::Second(engine) => engine.load(state),
         }
     }
 

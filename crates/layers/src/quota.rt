@@ -4,7 +4,8 @@ ghost use Rattle.engine.specs.Allowance.{smaller};
 ghost use Rattle.engine.specs.Meaning.{loaded, mix, run};
 ghost use Rattle.layers.specs.Metered.{below, limited, metered, passed, run_metered};
 
-use engine::{Allowance, Engine, EngineFault};
+use engine::{Allowance, Engine, EngineFault, check_rounds};
+use permutation::State;
 
 // It shows the words of the engine below; its allowance is the smaller of its count and the allowance below.
 #[derive(Drop)]
@@ -54,22 +55,20 @@ impl<E: Engine> Engine for Quota<E> {
 
     ghost allowance = { λ q. smaller q.count (E.Engine.allowance q.engine) };
 
-    ghost lender = { λ q. E.Engine.lender q.engine };
+    ghost loans = { λ q. E.Engine.loans q.engine };
 
-    fn load(&mut self, w0: u64, w1: u64, w2: u64, w3: u64, w4: u64)
+    fn load(&mut self, state: State)
         ensures five_words_set { limited E.Engine self.new
-            ≡ loaded w0 w1 w2 w3 w4 (limited E.Engine self.old) }
-        ensures same_lender { E.Engine.lender self.new.engine ≡ E.Engine.lender self.old.engine }
+            ≡ loaded state (limited E.Engine self.old) }
         ensures loaded_below { metered E.Engine self.new
-            ≡ below (loaded w0 w1 w2 w3 w4) (metered E.Engine self.old) }
+            ≡ below (loaded state) (metered E.Engine self.old) }
     {
-        self.engine.load(w0, w1, w2, w3, w4);
+        self.engine.load(state);
     }
 
     fn mix(&mut self, place: usize, value: u64) -> Result<(), EngineFault>
         ensures value_mixed_or_unchanged { (result, limited E.Engine self.new)
             ≡ mix place value (limited E.Engine self.old) }
-        ensures same_lender { E.Engine.lender self.new.engine ≡ E.Engine.lender self.old.engine }
         ensures mixed_below { (result, metered E.Engine self.new)
             ≡ passed (mix place value) (metered E.Engine self.old) }
     {
@@ -91,13 +90,10 @@ impl<E: Engine> Engine for Quota<E> {
     fn run(&mut self, rounds: usize) -> Result<(), EngineFault>
         ensures run_made_or_unchanged { (result, limited E.Engine self.new)
             ≡ run rounds (limited E.Engine self.old) }
-        ensures same_lender { E.Engine.lender self.new.engine ≡ E.Engine.lender self.old.engine }
         ensures counted_and_run_below { (result, metered E.Engine self.new)
             ≡ run_metered rounds (metered E.Engine self.old) }
     {
-        if rounds < 1 || rounds > 16 {
-            return Err(EngineFault::RoundsOutOfRange);
-        }
+        check_rounds(rounds)?;
         if self.count == 0 {
             return Err(EngineFault::NoRunsLeft);
         }

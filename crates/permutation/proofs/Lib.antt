@@ -3,7 +3,6 @@ pub mod Bitwise
 pub mod FiveWords
 pub mod Gathered
 pub mod Rotation
-pub mod Run
 pub mod Sbox
 pub mod Values
 pub mod WordCount

@@ -11,15 +11,18 @@ use crate::tables::SBOX;
 pub struct Columns;
 
 impl Substitution for Columns {
+    #[tactic(auto, using(crate::proofs::Gathered::gathered_all))]
     fn substituted(x: State) -> State {
         look_up(x)
     }
 }
 
+#[tactic(auto, using(crate::proofs::Gathered::gathered_none, crate::proofs::Gathered::gathered_more))]
 fn look_up(x: State) -> State
     ensures all_columns_gathered { result ≡ gathered x 64 }
 {
     let mut y = [0; 5];
+    // Kept: `j` is the number of a column and indexes nothing; a `fold` over it would hide that the columns are set one by one.
     for j in 0..64 {
         let replacement = entry(column_at(&x, j));
         set_column(&mut y, j, u64::from(replacement));

@@ -5,6 +5,7 @@ ghost use Rattle.permutation.specs.Permutation.{diffuse, spread};
 use crate::substitution::State;
 
 // One word, XORed with itself rotated right by two amounts.
+#[tactic(auto, using(crate::proofs::Rotation::rotate_right), unfolding(crate::specs::Permutation::spread))]
 fn spread_word(word: u64, first: u32, second: u32) -> u64
     requires { (0 < first) × ((first < 64) × ((0 < second) × (second < 64))) }
     ensures word_spread { result ≡ spread word first second }

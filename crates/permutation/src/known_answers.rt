@@ -10,6 +10,7 @@ use crate::tables::{CXOF128_INITIAL, HASH256_INITIAL, XOF128_INITIAL};
 
 // Makes twelve rounds from the start values of Ascon-Hash256, Ascon-XOF128 and Ascon-CXOF128, and compares the three states with those
 // that the standard prints.
+#[tactic(auto, using(crate::proofs::Values::known_values, crate::proofs::Sbox::sbox_agrees, crate::proofs::Rotation::rotation_moves_bits))]
 pub fn self_test<S: Substitution>() -> bool
     ensures passes { result ≡ true }
     ensures known_values { KnownValues }

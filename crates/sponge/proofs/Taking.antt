@@ -1,12 +1,12 @@
 -- An engine and a block after some bytes, and after more of them.
 -- Assumes nothing.
-use Rattle.std.proofs.Common.{◌≡◌, ℕ, ◌+◌, ◌<◌, ◌≤◌, true, List, [], ◌∷◌, ◌++◌, length, get_or, take, drop, Ok, Result, sym, ap, ◌∙◌, ap₂, arith}
+use Rattle.std.proofs.Common.{◌≡◌, ℕ, ◌+◌, ◌<◌, ◌≤◌, true, List, [], ◌∷◌, ◌++◌, length, get_or, take, drop, Ok, Result, sym, ap, ◌∙◌, ap₂, subst, arith}
 use Rattle.engine.proofs.Spending.{free_spent, had, next_had, next_spent}
 use Rattle.engine.proofs.Laws.{runs_add_up}
 use Rattle.engine.specs.Meaning.{Meaning}
 use Rattle.engine.specs.Runs.{after, has, paid}
 use Rattle.engine.specs.declared.fault.EngineFault.{EngineFault}
-use Rattle.std.proofs.lemmas.List.{append_assoc, append-nil, take-append-drop, take_more}
+use Rattle.std.proofs.lemmas.List.{append_assoc, append-nil, take-append-drop, take_all, take_more}
 use Rattle.sponge.specs.Sponge.{absorbed, rest_of, whole_blocks}
 use Rattle.sponge.proofs.Bytewise.{waits}
 use Rattle.sponge.proofs.Joining.{absorbed_joined, rest_joined, whole_joined}
@@ -71,6 +71,15 @@ pub one_more : (part piece : List ℕ) (i : ℕ) → i < length piece
 one_more part piece i lt =
     append_assoc part (take i piece) (get_or piece i 0 ∷ []) ∙ ap (λ (x : List ℕ). part ++ x) (sym (take_more piece i 0 lt))
 
+-- the next byte of a piece, absorbed
+pub next_taken : (m : Meaning) (part piece : List ℕ) (i : ℕ) (y z : Meaning) (rest rest' : List ℕ) (res : Result (Unit {0}) EngineFault) (u : Unit {0})
+    → Taken m (part ++ take i piece) y rest → i < length piece → res ≡ paid (whole_blocks (rest ++ get_or piece i 0 ∷ [])) y tt → res ≡ Ok u
+    → z ≡ after (whole_blocks (rest ++ get_or piece i 0 ∷ [])) z.words y → z.words ≡ absorbed y.words (rest ++ get_or piece i 0 ∷ [])
+    → rest' ≡ rest_of (rest ++ get_or piece i 0 ∷ []) → Taken m (part ++ take (i + 1) piece) z rest'
+next_taken m part piece i y z rest rest' res u t lt is ok spent words rests =
+    subst (λ (xs : List ℕ). Taken m xs z rest') (one_more part piece i lt)
+    (taken_more m (part ++ take i piece) y rest t (get_or piece i 0 ∷ []) z rest' res u is ok spent words rests)
+
 -- a piece has at least the whole blocks of its front
 pub front_blocks : (part piece : List ℕ) (i : ℕ) → whole_blocks (part ++ take i piece) ≤ whole_blocks (part ++ piece)
 front_blocks part piece i =
@@ -80,3 +89,8 @@ front_blocks part piece i =
     let j = whole_joined (part ++ take i piece) (drop i piece) in
     let k = ap whole_blocks e in
     omega arith
+
+-- the whole piece
+pub all_taken : (m : Meaning) (part piece : List ℕ) (i : ℕ) (y : Meaning) (rest : List ℕ) → Taken m (part ++ take i piece) y rest
+    → length piece ≤ i → Taken m (part ++ piece) y rest
+all_taken m part piece i y rest t past = subst (λ (xs : List ℕ). Taken m (part ++ xs) y rest) (take_all i piece past) t

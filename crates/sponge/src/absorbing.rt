@@ -15,9 +15,8 @@ pub fn initialize<E: Engine>(engine: &mut E, value: u64) -> Result<(), EngineFau
     ensures words_initialized { OnOk result (E.words engine.new ≡ initialized value) }
     ensures runs_spent { meaning E.Engine engine.new
         ≡ after 1 (E.words engine.new) (meaning E.Engine engine.old) }
-    ensures same_lender { E.lender engine.new ≡ E.lender engine.old }
 {
-    engine.load(value, 0, 0, 0, 0);
+    engine.load([value, 0, 0, 0, 0]);
     engine.run(12)?;
     Ok(())
 }
@@ -29,7 +28,6 @@ pub fn absorb_word<E: Engine>(engine: &mut E, word: u64) -> Result<(), EngineFau
         ≡ permuted 12 (mixed 0 word (E.words engine.old))) }
     ensures runs_spent { meaning E.Engine engine.new
         ≡ after 1 (E.words engine.new) (meaning E.Engine engine.old) }
-    ensures same_lender { E.lender engine.new ≡ E.lender engine.old }
 {
     engine.mix(0, word)?;
     engine.run(12)?;
@@ -46,7 +44,6 @@ fn absorb_byte<E: Engine>(engine: &mut E, block: &mut Block, byte: u8) -> Result
         ≡ rest_of (part_of block.old ++ byte ∷ [])) }
     ensures runs_spent { meaning E.Engine engine.new
         ≡ after (whole_blocks (part_of block.old ++ byte ∷ [])) (E.words engine.new) (meaning E.Engine engine.old) }
-    ensures same_lender { E.lender engine.new ≡ E.lender engine.old }
 {
     let Some(word) = block.place(byte) else {
         return Ok(());
@@ -56,6 +53,7 @@ fn absorb_byte<E: Engine>(engine: &mut E, block: &mut Block, byte: u8) -> Result
 }
 
 // Places the bytes of a piece into the current block one after another.
+#[tactic(auto, using(crate::proofs::Taking::all_taken))]
 pub fn absorb_bytes<E: Engine>(
     engine: &mut E,
     block: &mut Block,
@@ -69,7 +67,6 @@ pub fn absorb_bytes<E: Engine>(
         ≡ rest_of (part_of block.old ++ piece.now)) }
     ensures runs_spent { meaning E.Engine engine.new
         ≡ after (whole_blocks (part_of block.old ++ piece.now)) (E.words engine.new) (meaning E.Engine engine.old) }
-    ensures same_lender { E.lender engine.new ≡ E.lender engine.old }
 {
     for byte in piece.iter() {
         absorb_byte(engine, block, *byte)?;

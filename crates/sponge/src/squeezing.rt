@@ -14,7 +14,6 @@ fn refill<E: Engine>(engine: &mut E, at: usize) -> Result<(), EngineFault>
         ≡ after_runs (runs_to at (at + 1)) (E.words engine.old)) }
     ensures runs_spent { meaning E.Engine engine.new
         ≡ after (runs_to at (at + 1)) (E.words engine.new) (meaning E.Engine engine.old) }
-    ensures same_lender { E.lender engine.new ≡ E.lender engine.old }
 {
     if at % 8 != 0 {
         return Ok(());
@@ -38,7 +37,6 @@ pub fn squeeze_byte<E: Engine>(engine: &mut E, at: usize) -> Result<u8, EngineFa
         ≡ after_runs (runs_to at (at + 1)) (E.words engine.old)) }
     ensures runs_spent { meaning E.Engine engine.new
         ≡ after (runs_to at (at + 1)) (E.words engine.new) (meaning E.Engine engine.old) }
-    ensures same_lender { E.lender engine.new ≡ E.lender engine.old }
 {
     refill(engine, at)?;
     let word = output_word(engine)?;

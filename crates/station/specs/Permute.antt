@@ -15,5 +15,4 @@ read_after (Err e) m = Err e
 
 abbrev pub permute_once : ℕ → List ℕ → Meaning → Answered (List ℕ)
 permute_once rounds ws m =
-    let after : Answered (Unit {0}) = run rounds (loaded (slice_index ws 0) (slice_index ws 1) (slice_index ws 2) (slice_index ws 3) (slice_index ws 4) m) in
-    (read_after after.0 after.1, after.1)
+    let after : Answered (Unit {0}) = run rounds (loaded ws m) in (read_after after.0 after.1, after.1)

@@ -1,6 +1,6 @@
 -- What the chosen engine means under its quotas.
 -- Assumes nothing.
-use Rattle.std.specs.Prelude.{ℕ, List}
+use Rattle.std.specs.Prelude.{ℕ, List, []}
 use Rattle.engine.specs.Allowance.{smaller}
 use Rattle.engine.specs.Meaning.{Meaning}
 use Rattle.engine.specs.declared.allowance.Allowance.{Allowance}
@@ -22,4 +22,5 @@ pile_meaning p =
       allowance =
           chosen chosen_allowance (chosen (λ q. smaller q.count (chosen_allowance q.engine))
           (λ q. smaller q.count (smaller q.engine.count (chosen_allowance q.engine.engine)))) p;
+      loans = [];
     }

@@ -70,6 +70,7 @@ fn pile(kind: Kind, quotas: Quotas) -> Pile
 pub fn five_words<E: Engine>(engine: &E) -> State
     ensures words_read { result ≡ five_read (E.words engine.now) }
 {
+    // Kept: five reads, since `array::from_fn` asks its closure's clauses to say that each place is below 5.
     [
         engine.read(0).unwrap(),
         engine.read(1).unwrap(),
@@ -80,12 +81,11 @@ pub fn five_words<E: Engine>(engine: &E) -> State
 }
 
 // Loads the words, makes one run, and reads the words again.
-pub fn permute<E: Engine>(engine: &mut E, rounds: usize, words: State) -> Result<State, EngineFault>
+pub fn permute<E: Engine>(engine: &mut E, rounds: usize, state: State) -> Result<State, EngineFault>
     ensures loaded_run_read { (result, meaning E.Engine engine.new)
-        ≡ permute_once rounds words (meaning E.Engine engine.old) }
+        ≡ permute_once rounds state (meaning E.Engine engine.old) }
 {
-    let [w0, w1, w2, w3, w4] = words;
-    engine.load(w0, w1, w2, w3, w4);
+    engine.load(state);
     engine.run(rounds)?;
     Ok(five_words(engine))
 }

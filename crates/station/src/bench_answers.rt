@@ -1,140 +1,120 @@
 // The answers of the commands that need the engine.
-use crate::bench::{Bench, permute};
+use crate::bench::{Bench, Pile, permute};
 use crate::command::{AeadJob, BenchCommand, DigestJob};
 use crate::digests::{Digest, digest_once};
-use crate::shown::{Five, Refusal, Told, UNWRITTEN, digits};
-use aead::{Context, Joined, open, seal};
+use crate::shown::{Five, Outcome, Refused, Told, UNWRITTEN, digits};
+use aead::{Context, open, seal};
 use engine::Engine;
 use permutation::State;
 use suite::SuiteFault;
 
-pub fn answer_on_bench(
-    rt: &HostRuntime,
-    bench: &mut Bench,
-    command: BenchCommand,
-) -> anyhow::Result<()> {
-    match command {
-        BenchCommand::Engine(kind) => {
-            bench.choose(kind);
-            println!(rt; "engine ok kind={kind}")?;
+impl Bench {
+    // Does a command, and prints its answer.
+    pub fn answer(&mut self, rt: &HostRuntime, command: BenchCommand) -> anyhow::Result<()> {
+        match command {
+            BenchCommand::Engine(kind) => {
+                self.choose(kind);
+                println!(rt; "engine ok kind={kind}")?;
+            }
+            BenchCommand::Quota(quotas) => {
+                self.limit(quotas);
+                let allowance = self.told();
+                println!(rt; "quota ok allowance={allowance}")?;
+            }
+            BenchCommand::Tell => {
+                let allowance = self.told();
+                println!(rt; "tell ok allowance={allowance}")?;
+            }
+            BenchCommand::Permute(rounds, state) => self.permute(rt, rounds, state)?,
+            BenchCommand::SealText(job) => self.cipher(
+                rt,
+                "seal-text",
+                &job,
+                |e, c, text, out| seal(e, c, text, out),
+            )?,
+            BenchCommand::OpenText(job) => self.cipher(
+                rt,
+                "open-text",
+                &job,
+                |e, c, text, out| open(e, c, text, out),
+            )?,
+            BenchCommand::Digest(job) => self.digest(rt, &job)?,
         }
-        BenchCommand::Quota(quotas) => {
-            bench.limit(quotas);
-            let allowance = Told(bench.engine.tell());
-            println!(rt; "quota ok allowance={allowance}")?;
-        }
-        BenchCommand::Tell => {
-            let allowance = Told(bench.engine.tell());
-            println!(rt; "tell ok allowance={allowance}")?;
-        }
-        BenchCommand::Permute(rounds, words) => run_permute(rt, bench, rounds, words)?,
-        BenchCommand::SealText(job) => seal_text(rt, bench, &job)?,
-        BenchCommand::OpenText(job) => open_text(rt, bench, &job)?,
-        BenchCommand::Digest(job) => run_digest(rt, bench, &job)?,
+        Ok(())
     }
-    Ok(())
-}
 
-fn run_permute(
-    rt: &HostRuntime,
-    bench: &mut Bench,
-    rounds: usize,
-    words: State,
-) -> anyhow::Result<()> {
-    let result = permute(&mut bench.engine, rounds, words);
-    let allowance = Told(bench.engine.tell());
-    match result {
-        Ok(words) => {
-            let words = Five(words);
-            println!(rt; "permute ok words={words} allowance={allowance}")?;
-        }
-        Err(fault) => {
-            let refusal = Refusal::of_engine(fault);
-            println!(rt; "permute {refusal} allowance={allowance}")?;
-        }
+    fn told(&self) -> Told {
+        Told(self.engine.tell())
     }
-    Ok(())
-}
 
-// What a job's text is sealed under.
-fn context(job: &AeadJob) -> Context<'_> {
-    Context {
-        key: &job.key,
-        nonce: &job.nonce,
-        data: Joined {
-            front: job.front.as_slice(),
-            back: job.back.as_slice(),
-        },
-    }
-}
-
-fn seal_text(rt: &HostRuntime, bench: &mut Bench, job: &AeadJob) -> anyhow::Result<()> {
-    let mut output = vec![in rt.alloc(); UNWRITTEN; job.room]?;
-    let result = seal(
-        &mut bench.engine,
-        &context(job),
-        job.text.as_slice(),
-        output.as_mut_slice(),
-    );
-    show_output(rt, bench, "seal-text", result, output.as_slice())
-}
-
-fn open_text(rt: &HostRuntime, bench: &mut Bench, job: &AeadJob) -> anyhow::Result<()> {
-    let mut output = vec![in rt.alloc(); UNWRITTEN; job.room]?;
-    let result = open(
-        &mut bench.engine,
-        &context(job),
-        job.text.as_slice(),
-        output.as_mut_slice(),
-    );
-    show_output(rt, bench, "open-text", result, output.as_slice())
-}
-
-fn show_output(
-    rt: &HostRuntime,
-    bench: &Bench,
-    name: &str,
-    res: Result<usize, SuiteFault>,
-    output: &[u8],
-) -> anyhow::Result<()> {
-    let allowance = Told(bench.engine.tell());
-    let output = digits(rt.alloc(), output)?;
-    match res {
-        Ok(length) => println!(rt;
-            "{name} ok length={length} output={output} allowance={allowance}"
-        )?,
-        Err(fault) => {
-            let refusal = Refusal::of_suite(fault);
-            println!(rt; "{name} {refusal} output={output} allowance={allowance}")?;
+    fn permute(&mut self, rt: &HostRuntime, rounds: usize, state: State) -> anyhow::Result<()> {
+        let result = permute(&mut self.engine, rounds, state);
+        let allowance = self.told();
+        match result {
+            Ok(state) => {
+                let words = Five(state);
+                println!(rt; "permute ok words={words} allowance={allowance}")?;
+            }
+            Err(fault) => {
+                let refused = Refused(fault);
+                println!(rt; "permute {refused} allowance={allowance}")?;
+            }
         }
+        Ok(())
     }
-    Ok(())
-}
 
-fn run_digest(rt: &HostRuntime, bench: &mut Bench, job: &DigestJob) -> anyhow::Result<()> {
-    let mut output = vec![in rt.alloc(); UNWRITTEN; job.room]?;
-    let result = digest_once(
-        &mut bench.engine,
-        job.digest,
-        job.custom.as_slice(),
-        job.message.as_slice(),
-        output.as_mut_slice(),
-    );
-    let name = job.digest;
-    let allowance = Told(bench.engine.tell());
-    match result {
-        Ok(()) => {
-            let field = match job.digest {
-                Digest::Hash256 => "digest",
-                Digest::Xof128 | Digest::Cxof128 => "output",
-            };
-            let output = digits(rt.alloc(), output.as_slice())?;
-            println!(rt; "{name} ok {field}={output} allowance={allowance}")?;
+    // Seals or opens a text, by the call that is given.
+    fn cipher<F: FnOnce(&mut Pile, &Context<'_>, &[u8], &mut [u8]) -> Result<usize, SuiteFault>>(
+        &mut self,
+        rt: &HostRuntime,
+        name: &str,
+        job: &AeadJob,
+        call: F,
+    ) -> anyhow::Result<()>
+        requires callable { F.IsAlwaysCallable call }
+    {
+        let mut output = vec![in rt.alloc(); UNWRITTEN; job.room]?;
+        let result = call(
+            &mut self.engine,
+            &job.context(),
+            job.text.as_slice(),
+            output.as_mut_slice(),
+        );
+        let output = digits(rt.alloc(), output.as_slice())?;
+        let allowance = self.told();
+        match result {
+            Ok(length) => println!(rt;
+                "{name} ok length={length} output={output} allowance={allowance}"
+            )?,
+            Err(fault) => {
+                let refused = Refused(fault);
+                println!(rt; "{name} {refused} output={output} allowance={allowance}")?;
+            }
         }
-        Err(fault) => {
-            let refusal = Refusal::of_suite(fault);
-            println!(rt; "{name} {refusal} allowance={allowance}")?;
-        }
+        Ok(())
     }
-    Ok(())
+
+    fn digest(&mut self, rt: &HostRuntime, job: &DigestJob) -> anyhow::Result<()> {
+        let mut output = vec![in rt.alloc(); UNWRITTEN; job.room]?;
+        let result = digest_once(
+            &mut self.engine,
+            &job.digest,
+            job.message.as_slice(),
+            output.as_mut_slice(),
+        );
+        let name = &job.digest;
+        let outcome = Outcome(result);
+        let allowance = self.told();
+        if result.is_err() {
+            println!(rt; "{name} {outcome} allowance={allowance}")?;
+            return Ok(());
+        }
+        let field = match job.digest {
+            Digest::Hash256 => "digest",
+            Digest::Xof128 | Digest::Cxof128(_) => "output",
+        };
+        let output = digits(rt.alloc(), output.as_slice())?;
+        println!(rt; "{name} {outcome} {field}={output} allowance={allowance}")?;
+        Ok(())
+    }
 }

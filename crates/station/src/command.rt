@@ -1,8 +1,12 @@
 // The commands.
+ghost use Rattle.std.specs.Prelude.{◌≡◌};
+
 use crate::digests::Digest;
-use aead::Block;
+use crate::line::Reason;
+use aead::{Block, Context, Joined};
 use permutation::State;
 use std::fmt;
+use std::str::FromStr;
 
 // Which engine computes.
 #[derive(Clone, Copy)]
@@ -17,6 +21,18 @@ impl fmt::Display for Kind {
             Kind::Word => "word",
             Kind::Column => "column",
         })
+    }
+}
+
+impl FromStr for Kind {
+    type Err = Reason;
+
+    fn from_str(word: &str) -> Result<Kind, Reason> {
+        match word {
+            "word" => Ok(Kind::Word),
+            "column" => Ok(Kind::Column),
+            _ => Err(Reason::UnknownWord),
+        }
     }
 }
 
@@ -39,12 +55,27 @@ pub struct AeadJob {
     pub room: usize,
 }
 
-// A message to digest in one call, with an output of `room` bytes. The customization is as it was typed, perhaps too long, and empty for a
-// function that takes none.
+impl AeadJob {
+    // What the text is sealed under.
+    pub fn context(&self) -> Context<'_>
+        ensures key_and_nonce { (result.key.now ≡ self.now.key) × (result.nonce.now ≡ self.now.nonce) }
+        ensures both_parts { (result.data.front.now ≡ self.now.front.items) × (result.data.back.now ≡ self.now.back.items) }
+    {
+        Context {
+            key: &self.key,
+            nonce: &self.nonce,
+            data: Joined {
+                front: self.front.as_slice(),
+                back: self.back.as_slice(),
+            },
+        }
+    }
+}
+
+// A message to digest in one call, with an output of `room` bytes.
 #[derive(Drop)]
 pub struct DigestJob {
     pub digest: Digest,
-    pub custom: Vec<u8>,
     pub message: Vec<u8>,
     pub room: usize,
 }
@@ -73,7 +104,7 @@ pub enum SessionCommand {
 #[derive(Drop)]
 pub enum Command {
     Bench(BenchCommand),
-    // Opens a session, with a customization as in a `DigestJob`.
-    Start(Digest, Vec<u8>),
+    // Opens a session.
+    Start(Digest),
     Session(SessionCommand),
 }

@@ -1,25 +1,20 @@
 // The loop over the input. Which commands can be done depends on whether a session is open, and in which phase it is.
 use crate::bench::Bench;
-use crate::bench_answers::answer_on_bench;
-use crate::command::{Command, Kind, SessionCommand};
+use crate::command::{Command, SessionCommand};
 use crate::desk::{Answered, Desk};
 use crate::line::{Line, Reason};
-use crate::rig::Rig;
-use crate::session_answers::{absorb, end, finish, squeeze, start};
-use digest::{Absorbing, Squeezing};
+use crate::session_answers::{absorb, end, show, squeeze, start};
 use std::io::{BufRead, BufReader};
 use std::str::from_utf8;
 
 // Answers one line after another, to the end of the input, or until reading or printing fails. A session that is then open is ended.
 pub fn serve(rt: &HostRuntime) -> anyhow::Result<()> {
-    let mut input = BufReader::new(rt.alloc(), rt.stdin())?;
+    let input = BufReader::new(rt.alloc(), rt.stdin())?;
     let mut desk = Desk::Idle(Bench::new());
     let mut outcome = Ok(());
-    for _ in 0..u64::MAX {
-        let mut bytes = Vec::new(rt.alloc());
-        match input.read_until(b'\n', &mut bytes) {
-            Ok(0) => break,
-            Ok(_) => (desk, outcome) = answer(rt, desk, bytes.as_slice()),
+    for line in input.split(rt.alloc(), b'\n') {
+        match line {
+            Ok(bytes) => (desk, outcome) = answer(rt, desk, bytes.as_slice()),
             Err(fault) => outcome = Err(fault.into()),
         }
         if outcome.is_err() {
@@ -49,70 +44,35 @@ fn answer(rt: &HostRuntime, desk: Desk, bytes: &[u8]) -> Answered {
 }
 
 fn perform(rt: &HostRuntime, desk: Desk, name: &str, command: Command) -> Answered {
-    match desk {
-        Desk::Idle(bench) => perform_idle(rt, bench, name, command),
-        Desk::Absorbing(kind, session) => perform_absorbing(rt, kind, session, name, command),
-        Desk::Squeezing(kind, session) => perform_squeezing(rt, kind, session, name, command),
-    }
-}
-
-fn perform_idle(rt: &HostRuntime, mut bench: Bench, name: &str, command: Command) -> Answered {
-    match command {
-        Command::Bench(command) => {
-            let printed = answer_on_bench(rt, &mut bench, command);
+    match (desk, command) {
+        (Desk::Idle(mut bench), Command::Bench(command)) => {
+            let printed = bench.answer(rt, command);
             (Desk::Idle(bench), printed)
         }
-        Command::Start(digest, custom) => start(rt, bench, digest, custom.as_slice()),
-        Command::Session(_) => bad(rt, Desk::Idle(bench), name, Reason::NoSession),
-    }
-}
-
-fn perform_absorbing(
-    rt: &HostRuntime,
-    kind: Kind,
-    mut session: Absorbing<Rig>,
-    name: &str,
-    command: Command,
-) -> Answered {
-    match command {
-        Command::Session(SessionCommand::Absorb(piece)) => {
+        (Desk::Idle(bench), Command::Start(digest)) => start(rt, bench, &digest),
+        (Desk::Absorbing(kind, mut session), Command::Session(SessionCommand::Absorb(piece))) => {
             let printed = absorb(rt, &mut session, piece.as_slice());
             (Desk::Absorbing(kind, session), printed)
         }
-        Command::Session(SessionCommand::Finish) => finish(rt, kind, session),
-        Command::Session(SessionCommand::End) => end(rt, Desk::Absorbing(kind, session)),
-        Command::Session(SessionCommand::Squeeze(_)) => {
-            let desk = Desk::Absorbing(kind, session);
-            bad(rt, desk, name, Reason::WrongPhase)
+        (Desk::Absorbing(kind, session), Command::Session(SessionCommand::Finish)) => {
+            let desk = Desk::Squeezing(kind, session.finish());
+            (desk, show(rt, name, Ok(())))
         }
-        Command::Bench(_) | Command::Start(_, _) => {
-            let desk = Desk::Absorbing(kind, session);
-            bad(rt, desk, name, Reason::SessionOpen)
-        }
-    }
-}
-
-fn perform_squeezing(
-    rt: &HostRuntime,
-    kind: Kind,
-    mut session: Squeezing<Rig>,
-    name: &str,
-    command: Command,
-) -> Answered {
-    match command {
-        Command::Session(SessionCommand::Squeeze(room)) => {
+        (Desk::Squeezing(kind, mut session), Command::Session(SessionCommand::Squeeze(room))) => {
             let printed = squeeze(rt, &mut session, room);
             (Desk::Squeezing(kind, session), printed)
         }
-        Command::Session(SessionCommand::End) => end(rt, Desk::Squeezing(kind, session)),
-        Command::Session(SessionCommand::Absorb(_) | SessionCommand::Finish) => {
-            let desk = Desk::Squeezing(kind, session);
-            bad(rt, desk, name, Reason::WrongPhase)
-        }
-        Command::Bench(_) | Command::Start(_, _) => {
-            let desk = Desk::Squeezing(kind, session);
-            bad(rt, desk, name, Reason::SessionOpen)
-        }
+        (desk, command) => perform_in_any(rt, desk, name, command),
+    }
+}
+
+// Ends a session, or says why the command cannot be done now.
+fn perform_in_any(rt: &HostRuntime, desk: Desk, name: &str, command: Command) -> Answered {
+    match (desk, command) {
+        (Desk::Idle(bench), _) => bad(rt, Desk::Idle(bench), name, Reason::NoSession),
+        (desk, Command::Session(SessionCommand::End)) => end(rt, desk),
+        (desk, Command::Session(_)) => bad(rt, desk, name, Reason::WrongPhase),
+        (desk, _) => bad(rt, desk, name, Reason::SessionOpen),
     }
 }
 

@@ -3,19 +3,27 @@ ghost use Rattle.std.specs.Prelude.{◌≡◌};
 ghost use Rattle.engine.specs.Of.{meaning};
 ghost use Rattle.digest.specs.Phases.{starting};
 ghost use Rattle.digest.specs.Sessions.{absorbing_of};
-ghost use Rattle.station.specs.Digests.{digested_once, digesting, function_of};
+ghost use Rattle.station.specs.Digests.{Admitted, digested_once, digesting, function_of};
 
 use digest::{Absorbing, Customization};
 use engine::Engine;
 use std::fmt;
 use suite::SuiteFault;
 
-// The digest functions.
-#[derive(Clone, Copy)]
+// A digest function as it was typed. Its customization may be too long.
+#[derive(Drop)]
 pub enum Digest {
     Hash256,
     Xof128,
-    Cxof128,
+    Cxof128(Vec<u8>),
+}
+
+// A digest function that a session can be started of.
+#[derive(Clone, Copy)]
+pub enum Function<'a> {
+    Hash256,
+    Xof128,
+    Cxof128(Customization<'a>),
 }
 
 impl fmt::Display for Digest {
@@ -23,56 +31,64 @@ impl fmt::Display for Digest {
         f.write_str(match self {
             Digest::Hash256 => "hash256",
             Digest::Xof128 => "xof128",
-            Digest::Cxof128 => "cxof128",
+            Digest::Cxof128(_) => "cxof128",
         })
     }
 }
 
-// Starts a session. Only CXOF128 looks at the customization.
-pub fn start_session<E: Engine>(
-    engine: E,
-    digest: Digest,
-    custom: Customization<'_>,
-) -> Absorbing<E>
-    ensures started_or_stopped { absorbing_of E.Engine result
-        ≡ starting (function_of digest custom.entry.bytes.now) (meaning E.Engine engine) }
-    ensures same_lender { E.lender result.engine ≡ E.lender engine }
+impl Digest {
+    // The function to start. A customization that is too long is refused.
+    pub fn function(&self) -> Result<Function<'_>, SuiteFault>
+        ensures function_or_refused { Admitted self.now result }
+    {
+        match self {
+            Digest::Hash256 => Ok(Function::Hash256),
+            Digest::Xof128 => Ok(Function::Xof128),
+            Digest::Cxof128(bytes) => {
+                let mut custom = Customization::empty();
+                custom.make(bytes.as_slice())?;
+                Ok(Function::Cxof128(custom))
+            }
+        }
+    }
+}
+
+// Starts a session.
+pub fn start_session<E: Engine>(engine: E, function: Function<'_>) -> Absorbing<E>
+    ensures started_or_stopped { absorbing_of E.Engine result ≡ starting (function_of function.entry) (meaning E.Engine engine) }
 {
-    match digest {
-        Digest::Hash256 => Absorbing::hash256(engine),
-        Digest::Xof128 => Absorbing::xof128(engine),
-        Digest::Cxof128 => Absorbing::cxof128(engine, custom),
+    match function {
+        Function::Hash256 => Absorbing::hash256(engine),
+        Function::Xof128 => Absorbing::xof128(engine),
+        Function::Cxof128(custom) => Absorbing::cxof128(engine, custom),
     }
 }
 
 // A digest on a lent engine. A customization that is too long is refused first, and then the engine is not touched.
 pub fn digest_once<E: Engine>(
     engine: &mut E,
-    digest: Digest,
-    custom: &[u8],
+    digest: &Digest,
     message: &[u8],
     out: &mut [u8],
 ) -> Result<(), SuiteFault>
     ensures digested_or_refused { (result, out.new, meaning E.Engine engine.new)
-        ≡ digesting digest custom.now message.now out.old (meaning E.Engine engine.old) }
+        ≡ digesting digest.now message.now out.old (meaning E.Engine engine.old) }
 {
-    let mut customization = Customization::empty();
-    customization.make(custom)?;
-    whole_session(engine, digest, customization, message, out)
+    let function = digest.function()?;
+    whole_session(engine, function, message, out)
 }
 
 // A whole session: start, one message piece, finish, one output piece, end. The first refusal ends it.
 fn whole_session<E: Engine>(
     engine: &mut E,
-    digest: Digest,
-    custom: Customization<'_>,
+    function: Function<'_>,
     message: &[u8],
     out: &mut [u8],
 ) -> Result<(), SuiteFault>
     ensures digested_or_refused { (result, out.new, meaning E.Engine engine.new)
-        ≡ digested_once (function_of digest custom.entry.bytes.now) message.now out.old (meaning E.Engine engine.old) }
+        ≡ digested_once (function_of function.entry) message.now out.old (meaning E.Engine engine.old) }
 {
-    let mut session = start_session(engine, digest, custom);
+    let mut session = start_session(engine, function);
     if let Err(fault) = session.absorb(message) {
         session.end();
         return Err(fault);

@@ -3,6 +3,7 @@ use aead::Block;
 use hexadecimal::{HexFault, decode, parse_number};
 use std::alloc::{AllocError, Global};
 use std::fmt;
+use std::num::TryFromIntError;
 use std::str::SplitAsciiWhitespace;
 
 // The longest output that a command may ask for.
@@ -50,6 +51,21 @@ impl From<AllocError> for Reason {
     }
 }
 
+impl From<HexFault> for Reason {
+    fn from(fault: HexFault) -> Reason {
+        match fault {
+            HexFault::NotHex => Reason::NoHex,
+            HexFault::OutputTooShort => Reason::WrongLength,
+        }
+    }
+}
+
+impl From<TryFromIntError> for Reason {
+    fn from(_: TryFromIntError) -> Reason {
+        Reason::OutOfRange
+    }
+}
+
 #[derive(Drop)]
 pub struct Line<'a> {
     words: SplitAsciiWhitespace<'a>,
@@ -90,20 +106,13 @@ impl<'a> Line<'a> {
             return Ok(Vec::new(heap));
         }
         let mut bytes = vec![in heap; 0; word.len() / 2]?;
-        match decode(word.as_bytes(), bytes.as_mut_slice()) {
-            Ok(_) => Ok(bytes),
-            Err(_) => Err(Reason::NoHex),
-        }
+        decode(word.as_bytes(), bytes.as_mut_slice())?;
+        Ok(bytes)
     }
 
     // A key or a nonce: 16 bytes.
     pub fn block(&mut self) -> Result<Block, Reason> {
-        let mut block = [0; 16];
-        match decode(self.some_word()?.as_bytes(), &mut block) {
-            Ok(16) => Ok(block),
-            Err(HexFault::NotHex) => Err(Reason::NoHex),
-            _ => Err(Reason::WrongLength),
-        }
+        exactly(self.some_word()?)
     }
 
     // The length of an output.
@@ -117,19 +126,27 @@ impl<'a> Line<'a> {
 
     // A word of the state: 16 hexadecimal digits.
     pub fn state_word(&mut self) -> Result<u64, Reason> {
-        let mut bytes = [0; 8];
-        match decode(self.some_word()?.as_bytes(), &mut bytes) {
-            Ok(8) => Ok(u64::from_be_bytes(bytes)),
-            _ => Err(Reason::NoHex),
+        match exactly(self.some_word()?) {
+            Ok(bytes) => Ok(u64::from_be_bytes(bytes)),
+            Err(_) => Err(Reason::NoHex),
         }
     }
 }
 
-pub fn number(word: &str) -> Result<u64, Reason> {
+// A string of so many bytes.
+fn exactly<const N: usize>(word: &str) -> Result<[u8; N], Reason> {
+    let mut bytes = [0; N];
+    if decode(word.as_bytes(), &mut bytes)? < N {
+        return Err(Reason::WrongLength);
+    }
+    Ok(bytes)
+}
+
+fn number(word: &str) -> Result<u64, Reason> {
     parse_number(word.as_bytes()).ok_or(Reason::NoNumber)
 }
 
 // The count of a quota.
 pub fn count(word: &str) -> Result<u32, Reason> {
-    u32::try_from(number(word)?).ok().ok_or(Reason::OutOfRange)
+    Ok(u32::try_from(number(word)?)?)
 }

@@ -10,7 +10,6 @@ mod desk;
 mod digests;
 mod line;
 mod parse;
-mod rig;
 mod session_answers;
 mod shown;
 

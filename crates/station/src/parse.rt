@@ -1,8 +1,9 @@
 // Commands read from their lines.
-use crate::command::{AeadJob, BenchCommand, Command, DigestJob, Kind, Quotas, SessionCommand};
+use crate::command::{AeadJob, BenchCommand, Command, DigestJob, Quotas, SessionCommand};
 use crate::digests::Digest;
 use crate::line::{Line, Reason, count};
 use std::alloc::Global;
+use std::array::try_from_fn;
 
 impl Command {
     // The command that a first word and the words after it spell.
@@ -22,7 +23,7 @@ impl Command {
 
 fn parse_on_bench(heap: Global, name: &str, words: &mut Line<'_>) -> Result<BenchCommand, Reason> {
     match name {
-        "engine" => Ok(BenchCommand::Engine(parse_kind(words)?)),
+        "engine" => Ok(BenchCommand::Engine(words.some_word()?.parse()?)),
         "quota" => Ok(BenchCommand::Quota(parse_quotas(words)?)),
         "tell" => Ok(BenchCommand::Tell),
         "permute" => parse_permute(words),
@@ -30,14 +31,6 @@ fn parse_on_bench(heap: Global, name: &str, words: &mut Line<'_>) -> Result<Benc
         "open-text" => Ok(BenchCommand::OpenText(parse_aead(heap, words)?)),
         // A digest command has the name of its function.
         _ => Ok(BenchCommand::Digest(parse_digest_job(heap, name, words)?)),
-    }
-}
-
-fn parse_kind(words: &mut Line<'_>) -> Result<Kind, Reason> {
-    match words.some_word()? {
-        "word" => Ok(Kind::Word),
-        "column" => Ok(Kind::Column),
-        _ => Err(Reason::UnknownWord),
     }
 }
 
@@ -55,13 +48,7 @@ fn parse_quotas(words: &mut Line<'_>) -> Result<Quotas, Reason> {
 
 fn parse_permute(words: &mut Line<'_>) -> Result<BenchCommand, Reason> {
     let rounds = words.number()? as usize;
-    let state = [
-        words.state_word()?,
-        words.state_word()?,
-        words.state_word()?,
-        words.state_word()?,
-        words.state_word()?,
-    ];
+    let state = try_from_fn(|_| words.state_word())?;
     Ok(BenchCommand::Permute(rounds, state))
 }
 
@@ -82,44 +69,29 @@ fn parse_aead(heap: Global, words: &mut Line<'_>) -> Result<AeadJob, Reason> {
     })
 }
 
-// The digest function of this name.
-fn digest_named(name: &str) -> Result<Digest, Reason> {
-    match name {
-        "hash256" => Ok(Digest::Hash256),
-        "xof128" => Ok(Digest::Xof128),
-        "cxof128" => Ok(Digest::Cxof128),
-        _ => Err(Reason::UnknownWord),
-    }
-}
-
-// The customization, where the function takes one.
-fn parse_custom(heap: Global, digest: Digest, words: &mut Line<'_>) -> Result<Vec<u8>, Reason> {
-    match digest {
-        Digest::Cxof128 => words.bytes(heap),
-        Digest::Hash256 | Digest::Xof128 => Ok(Vec::new(heap)),
-    }
-}
-
 fn parse_start(heap: Global, words: &mut Line<'_>) -> Result<Command, Reason> {
-    let digest = digest_named(words.some_word()?)?;
-    let custom = parse_custom(heap, digest, words)?;
-    Ok(Command::Start(digest, custom))
+    let digest = match words.some_word()? {
+        "hash256" => Digest::Hash256,
+        "xof128" => Digest::Xof128,
+        "cxof128" => Digest::Cxof128(words.bytes(heap)?),
+        _ => return Err(Reason::UnknownWord),
+    };
+    Ok(Command::Start(digest))
 }
 
 // The length of a digest of Hash256.
 const HASH256_ROOM: usize = 32;
 
 fn parse_digest_job(heap: Global, name: &str, words: &mut Line<'_>) -> Result<DigestJob, Reason> {
-    let digest = digest_named(name)?;
-    let room = match digest {
-        Digest::Hash256 => HASH256_ROOM,
-        Digest::Xof128 | Digest::Cxof128 => words.room()?,
+    let (room, digest) = match name {
+        "hash256" => (HASH256_ROOM, Digest::Hash256),
+        "xof128" => (words.room()?, Digest::Xof128),
+        "cxof128" => (words.room()?, Digest::Cxof128(words.bytes(heap)?)),
+        _ => return Err(Reason::UnknownWord),
     };
-    let custom = parse_custom(heap, digest, words)?;
     let message = words.bytes(heap)?;
     Ok(DigestJob {
         digest,
-        custom,
         message,
         room,
     })

@@ -1,11 +1,9 @@
 // How values are printed.
-use anyhow::anyhow;
-use engine::{Allowance, EngineFault, Layer};
+use engine::{Allowance, Layer, Refusal};
 use hexadecimal::encode;
 use permutation::State;
-use std::alloc::{AllocError, Global};
+use std::alloc::Global;
 use std::fmt;
-use suite::SuiteFault;
 
 // What an engine tells.
 #[derive(Clone, Copy)]
@@ -31,42 +29,36 @@ impl fmt::Display for Five {
     }
 }
 
-// A refusal by its number, layer and place.
+// A refusal of any layer, by its number, layer and place.
 #[derive(Clone, Copy)]
-pub struct Refusal {
-    number: u8,
-    layer: Layer,
-    place: u64,
-}
+pub struct Refused<F>(pub F);
 
-impl Refusal {
-    pub fn of_engine(fault: EngineFault) -> Refusal {
-        Refusal {
-            number: fault.number(),
-            layer: fault.layer(),
-            place: fault.place(),
-        }
-    }
-
-    pub fn of_suite(fault: SuiteFault) -> Refusal {
-        Refusal {
-            number: fault.number(),
-            layer: fault.layer(),
-            place: fault.place(),
-        }
-    }
-}
-
-impl fmt::Display for Refusal {
+impl<F: Refusal> fmt::Display for Refused<F> {
     fn fmt<W: fmt::Write>(&self, f: &mut fmt::Formatter<W>) -> fmt::Result {
-        let number = self.number;
-        let place = self.place;
-        let layer = match self.layer {
+        let number = self.0.number();
+        let layer = match self.0.layer() {
             Layer::Engine => "engine",
             Layer::Suite => "suite",
             Layer::Link => "link",
         };
+        let place = self.0.place();
         write!(f, "refused {number} {layer} {place}")
+    }
+}
+
+// Whether a call was accepted: `ok`, or its refusal.
+#[derive(Clone, Copy)]
+pub struct Outcome<F>(pub Result<(), F>);
+
+impl<F: Refusal + Copy> fmt::Display for Outcome<F> {
+    fn fmt<W: fmt::Write>(&self, f: &mut fmt::Formatter<W>) -> fmt::Result {
+        match self.0 {
+            Ok(()) => f.write_str("ok"),
+            Err(fault) => {
+                let refused = Refused(fault);
+                write!(f, "{refused}")
+            }
+        }
     }
 }
 
@@ -74,13 +66,14 @@ impl fmt::Display for Refusal {
 pub const UNWRITTEN: u8 = 0xee;
 
 // Bytes as hexadecimal digits, none as `-`.
+// Kept: a text of its own and no `Display`, since the digits come from the proved `encode`, which fills a buffer.
 pub fn digits(heap: Global, bytes: &[u8]) -> anyhow::Result<String> {
     if bytes.is_empty() {
         return Ok(String::from_str(heap, "-")?);
     }
     let mut text = vec![in heap; 0; bytes.len().saturating_mul(2)]?;
     if encode(bytes, text.as_mut_slice()).is_err() {
-        return Err(anyhow!("no room for digits"));
+        anyhow::bail!("no room for digits");
     }
     Ok(String::from_utf8(text)?)
 }

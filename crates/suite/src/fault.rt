@@ -1,9 +1,9 @@
 // The refusals of the suite. Each has a number, a layer and a place, which specs/Facts.antt gives case by case.
 ghost use Rattle.std.specs.Prelude.{◌≡◌};
-ghost use Rattle.suite.specs.Facts.{facts, stamped};
+ghost use Rattle.suite.specs.Facts.{facts as listed, stamped};
 ghost use Rattle.suite.specs.declared.fault.SuiteFault.TheVariants.{Engine as OfEngine};
 
-use engine::{EngineFault, Layer};
+use engine::{EngineFault, Layer, Refusal};
 
 #[derive(Clone, Copy, PartialEq, Eq, Debug)]
 pub enum SuiteFault {
@@ -36,10 +36,11 @@ impl From<EngineFault> for SuiteFault {
     }
 }
 
-impl SuiteFault {
-    pub fn number(&self) -> u8
-        ensures listed_number { result ≡ (facts self.now).number }
-    {
+impl Refusal for SuiteFault {
+    ghost facts = { listed };
+
+    // Kept: every refusal has its number outside the program, which the definition lists; inside, the enum is used.
+    fn number(&self) -> u8 {
         match self {
             SuiteFault::Engine(fault, _) => fault.number(),
             SuiteFault::CustomizationTooLong => 4,
@@ -53,24 +54,22 @@ impl SuiteFault {
         }
     }
 
-    pub fn layer(&self) -> Layer
-        ensures listed_layer { result ≡ (facts self.now).layer }
-    {
+    fn layer(&self) -> Layer {
         match self {
             SuiteFault::Engine(fault, _) => fault.layer(),
             _ => Layer::Suite,
         }
     }
 
-    pub fn place(&self) -> u64
-        ensures listed_place { result ≡ (facts self.now).place }
-    {
+    fn place(&self) -> u64 {
         match self {
             SuiteFault::Engine(_, runs) => *runs,
             _ => 0,
         }
     }
+}
 
+impl SuiteFault {
     // The same refusal, with the runs that the call had completed.
     pub fn after(self, runs: u64) -> SuiteFault
         ensures runs_put_in { result ≡ stamped runs self }

@@ -1,18 +1,18 @@
-// Ending a session, in either phase.
+// Ending a session, in either phase, and stopping one.
 ghost use Rattle.std.specs.Prelude.{◌≡◌};
 ghost use Rattle.engine.specs.Of.{meaning};
 ghost use Rattle.engine.specs.Runs.{wiped};
+ghost use Rattle.digest.specs.Phases.{stopped_giving, stopped_taking};
+ghost use Rattle.digest.specs.Sessions.{absorbing_of, squeezing_of};
 
 use crate::session::{Absorbing, Squeezing};
 use engine::Engine;
 
 // An engine with its words cleared.
-fn cleared<E: Engine>(engine: E) -> E
+fn cleared<E: Engine>(mut engine: E) -> E
     ensures words_zero { meaning E.Engine result ≡ wiped (meaning E.Engine engine) }
-    ensures same_lender { E.lender result ≡ E.lender engine }
 {
-    let mut engine = engine;
-    engine.load(0, 0, 0, 0, 0);
+    engine.load([0; 5]);
     engine
 }
 
@@ -20,16 +20,22 @@ impl<E: Engine> Absorbing<E> {
     // Gives the engine back with zero words.
     pub fn end(self) -> E
         ensures words_zero { meaning E.Engine result ≡ wiped (meaning E.Engine self.engine) }
-        ensures same_lender { E.lender result ≡ E.lender self.engine }
     {
         let Absorbing {
             engine: absorbing,
-            block: _,
-            taken: _,
+            message: _,
             limit: _,
-            stopped: _,
         } = self;
         cleared(absorbing)
+    }
+
+    // Nothing of the message stays in a stopped session.
+    pub(crate) fn stop(&mut self)
+        ensures nothing_kept { absorbing_of E.Engine self.new
+            ≡ stopped_taking self.old.limit (wiped (meaning E.Engine self.old.engine)) }
+    {
+        self.engine.load([0; 5]);
+        self.message = None;
     }
 }
 
@@ -37,14 +43,21 @@ impl<E: Engine> Squeezing<E> {
     // Gives the engine back with zero words.
     pub fn end(self) -> E
         ensures words_zero { meaning E.Engine result ≡ wiped (meaning E.Engine self.engine) }
-        ensures same_lender { E.lender result ≡ E.lender self.engine }
     {
         let Squeezing {
             engine: squeezing,
             given: _,
             limit: _,
-            stopped: _,
         } = self;
         cleared(squeezing)
+    }
+
+    // Nothing of the output stays in a stopped session.
+    pub(crate) fn stop(&mut self)
+        ensures nothing_kept { squeezing_of E.Engine self.new
+            ≡ stopped_giving self.old.limit (wiped (meaning E.Engine self.old.engine)) }
+    {
+        self.engine.load([0; 5]);
+        self.given = None;
     }
 }

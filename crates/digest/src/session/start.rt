@@ -4,13 +4,14 @@ ghost use Rattle.engine.specs.Of.{meaning};
 ghost use Rattle.engine.specs.Runs.{wiped};
 ghost use Rattle.digest.specs.Phases.{starting, stopped_taking, taking};
 ghost use Rattle.digest.specs.Sessions.{absorbing_of};
-ghost use Rattle.digest.specs.Functions.{cxof128 as CXOF128, hash256 as HASH256, xof128 as XOF128};
+ghost use Rattle.digest.specs.Functions.{cxof128 as CXOF128, hash256 as HASH256, plain, xof128 as XOF128};
 
 use crate::customization::Customization;
 use crate::customizing::customize;
+use crate::message::Message;
 use crate::session::Absorbing;
 use engine::{Engine, EngineFault};
-use sponge::{Block, initialize};
+use sponge::initialize;
 
 // The start values, which name the functions and their sizes.
 const HASH256_START: u64 = 0x0000_0801_00cc_0002;
@@ -28,32 +29,33 @@ impl<E: Engine> Absorbing<E> {
     // A session of Ascon-Hash256, whose output has at most 32 bytes.
     pub fn hash256(engine: E) -> Absorbing<E>
         ensures started_or_stopped { absorbing_of E.Engine result ≡ starting HASH256 (meaning E.Engine engine) }
-        ensures same_lender { E.lender result.engine ≡ E.lender engine }
     {
-        let mut engine = engine;
-        let started = initialize(&mut engine, HASH256_START);
-        Absorbing::new(engine, started, HASH256_LIMIT)
+        Absorbing::started(engine, HASH256_START, HASH256_LIMIT)
     }
 
     // A session of Ascon-XOF128.
     pub fn xof128(engine: E) -> Absorbing<E>
         ensures started_or_stopped { absorbing_of E.Engine result ≡ starting XOF128 (meaning E.Engine engine) }
-        ensures same_lender { E.lender result.engine ≡ E.lender engine }
     {
-        let mut engine = engine;
-        let started = initialize(&mut engine, XOF128_START);
-        Absorbing::new(engine, started, XOF_LIMIT)
+        Absorbing::started(engine, XOF128_START, XOF_LIMIT)
     }
 
     // A session of Ascon-CXOF128. The bound of a customization is in its type, so its length is not asked.
-    pub fn cxof128(engine: E, custom: Customization<'_>) -> Absorbing<E>
+    pub fn cxof128(mut engine: E, custom: Customization<'_>) -> Absorbing<E>
         ensures started_or_stopped { absorbing_of E.Engine result
             ≡ starting (CXOF128 custom.entry.bytes.now) (meaning E.Engine engine) }
-        ensures same_lender { E.lender result.engine ≡ E.lender engine }
     {
-        let mut engine = engine;
         let started = customize(&mut engine, CXOF128_START, custom);
         Absorbing::new(engine, started, XOF_LIMIT)
+    }
+
+    // A session of a function that begins with a start value alone.
+    fn started(mut engine: E, value: u64, limit: usize) -> Absorbing<E>
+        requires output_bounded { limit ≤ 16777216 }
+        ensures started_or_stopped { absorbing_of E.Engine result ≡ starting (plain value limit) (meaning E.Engine engine) }
+    {
+        let started = initialize(&mut engine, value);
+        Absorbing::new(engine, started, limit)
     }
 
     // A session over an engine that made its first runs, or a stopped one over an engine that was refused one.
@@ -61,14 +63,11 @@ impl<E: Engine> Absorbing<E> {
         requires output_bounded { limit ≤ 16777216 }
         ensures ready_or_stopped { absorbing_of E.Engine result
             ≡ (if is_ok started then taking limit [] 0 (meaning E.Engine engine) else stopped_taking limit (wiped (meaning E.Engine engine))) }
-        ensures same_lender { E.lender result.engine ≡ E.lender engine }
     {
         let mut session = Absorbing {
             engine,
-            block: Block::empty(),
-            taken: 0,
+            message: Some(Message::empty()),
             limit,
-            stopped: false,
         };
         if started.is_err() {
             session.stop();

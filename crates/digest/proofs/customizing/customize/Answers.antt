@@ -19,5 +19,4 @@ returns g c =
           c.in_ok-absorb_bytes.ensures.rest_kept c.padded_word.ensures.rest_padded
           c.in_ok-absorb_word-2.ensures.word_absorbed;
       runs_spent = search rules;
-      same_lender = search rules;
     }

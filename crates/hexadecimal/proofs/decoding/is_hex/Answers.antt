@@ -1,10 +1,11 @@
-use Rattle.std.proofs.Common.{sym, ap, ◌∙◌, fold, true, arith}
-use Rattle.std.proofs.lemmas.List.{take_all}
-use Rattle.std.proofs.lemmas.Bool.{and_parts}
-use Rattle.hexadecimal.proofs.Digits.{digits_from_test, step}
+use Rattle.std.proofs.Common.{arith, rules, tests}
+use Rattle.std.proofs.lemmas.Bool.Decides.{nat_tests}
+use Rattle.std.proofs.lemmas.Iterator.{YieldsList-from_slice}
+use Rattle.std.proofs.lemmas.Iterator.Search.{all_from_yields_List}
+use Rattle.std.specs.Char.{is_ascii_hexdigit}
 use Rattle.hexadecimal.proofs.decoding.is_hex.Goals as goal
 
-pub returns-clause-digits_only : goal.returns-clause-digits_only
-returns-clause-digits_only c e =
-    digits_from_test true c.args.text.now
-    (sym (c.loop-c.invariant ∙ ap (fold step true) (take_all c.loop-c.c-index c.args.text.now (omega arith))) ∙ (and_parts _ _ e).0)
+pub returns-then-text-eq0 : goal.returns-then-text-eq0
+returns-then-text-eq0 c =
+    let e = all_from_yields_List is_ascii_hexdigit _ _ c.all.result c.all.ensures.ran (YieldsList-from_slice c.args.text.now cc) (λ x b q k. search (rules, tests)) in
+    record { hex_is = grind (arith, nat_tests) }

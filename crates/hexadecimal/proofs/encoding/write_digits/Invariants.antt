@@ -1,6 +1,6 @@
-use Rattle.std.proofs.Common.{◌≡◌, ℕ, ◌<◌, get_or}
-use Rattle.hexadecimal.specs.Hexadecimal.{digit_at}
+use Rattle.std.proofs.Common.{◌≡◌, ◌*◌, take}
+use Rattle.hexadecimal.specs.Hexadecimal.{encoded}
 use Rattle.hexadecimal.proofs.encoding.write_digits.Given as goal
 
 abbrev pub invariant-loop-k : goal.invariant-loop-k
-invariant-loop-k l = (j : ℕ) → j < l.k → get_or l.text j 0 ≡ digit_at l.bytes j
+invariant-loop-k l = take (2 * l.k) l.text ≡ encoded (take l.k l.bytes)

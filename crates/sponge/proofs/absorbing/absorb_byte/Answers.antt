@@ -1,4 +1,4 @@
-use Rattle.std.proofs.Common.{ℕ, ◌≤◌, [], ◌∷◌, ◌++◌, sym, refl, ap, ◌∙◌, arith}
+use Rattle.std.proofs.Common.{ℕ, ◌≤◌, [], ◌∷◌, ◌++◌, sym, ap, ◌∙◌, arith}
 use Rattle.engine.proofs.Spending.{free, free_spent, none_made, refused}
 use Rattle.engine.specs.Of.{meaning}
 use Rattle.engine.specs.Runs.{after, paid}
@@ -21,7 +21,6 @@ returns-in_default g c =
       byte_absorbed = w.none_absorbed m.words;
       rest_kept = w.all_rest;
       runs_spent = free_spent (whole_blocks (part ++ c.args.byte ∷ [])) m w.none_whole;
-      same_lender = refl;
     }
 
 pub returns-in_err-absorb_word : goal.returns-in_err-absorb_word
@@ -43,7 +42,6 @@ returns-in_err-absorb_word g c =
       byte_absorbed = t.1;
       rest_kept = none_made c.from_residual.result _ back;
       runs_spent = t.2;
-      same_lender = c.absorb_word.ensures.same_lender;
     }
 
 pub returns : goal.returns
@@ -60,5 +58,4 @@ returns g c =
       byte_absorbed = c.in_ok-absorb_word.ensures.word_absorbed ∙ w.one_absorbed m.words;
       rest_kept = w.no_rest;
       runs_spent = c.absorb_word.ensures.runs_spent ∙ ap (λ (n : ℕ). after n z.words m) (sym w.one_whole);
-      same_lender = c.absorb_word.ensures.same_lender;
     }

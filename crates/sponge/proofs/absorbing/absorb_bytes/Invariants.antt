@@ -1,4 +1,4 @@
-use Rattle.std.proofs.Common.{◌≡◌, ◌++◌, take}
+use Rattle.std.proofs.Common.{◌++◌, take}
 use Rattle.engine.specs.Of.{meaning}
 use Rattle.sponge.specs.Held.{part_of}
 use Rattle.sponge.proofs.Taking.{Taken}
@@ -8,4 +8,3 @@ abbrev pub invariant-loop-byte : goal.invariant-loop-byte
 invariant-loop-byte g l =
     Taken (meaning g.E.Engine l.initial.engine) (part_of l.initial.block ++ take l.byte-index l.piece)
     (meaning g.E.Engine l.engine) (part_of l.block)
-    × (g.E.Engine.lender l.engine ≡ g.E.Engine.lender l.initial.engine)

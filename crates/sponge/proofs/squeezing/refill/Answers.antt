@@ -1,4 +1,4 @@
-use Rattle.std.proofs.Common.{◌≡◌, ℕ, ◌+◌, sym, refl, ap, rules}
+use Rattle.std.proofs.Common.{◌≡◌, ℕ, ◌+◌, sym, ap, rules}
 use Rattle.engine.proofs.Spending.{free, free_spent}
 use Rattle.engine.specs.Of.{meaning}
 use Rattle.sponge.specs.Steps.{runs_to}
@@ -14,7 +14,6 @@ returns-then-at-ne0 g c =
       paid_or_refused = free (runs_to c.args.at (c.args.at + 1)) m tt none;
       words_run = sym (ap (λ (n : ℕ). after_runs n m.words) none);
       runs_spent = free_spent (runs_to c.args.at (c.args.at + 1)) m none;
-      same_lender = refl;
     }
 
 pub returns-in_err-run : goal.returns-in_err-run

@@ -22,5 +22,4 @@ returns g c =
           c.in_ok-refill.was;
       words_run = done;
       runs_spent = c.refill.ensures.runs_spent;
-      same_lender = c.refill.ensures.same_lender;
     }

@@ -10,10 +10,10 @@ use Rattle.digest.proofs.Giving.{Given, byte_more, given_more, given_paid, given
 use Rattle.digest.proofs.session.output.squeeze_bytes.Goals as goal
 
 pub loop-i-init : goal.loop-i-init
-loop-i-init g c = (given_start (meaning g.E.Engine c.args.engine.now) c.args.given, refl, refl)
+loop-i-init g c = (given_start (meaning g.E.Engine c.args.engine.now) c.args.given, refl)
 
-pub returns-in_err-out : goal.returns-in_err-out
-returns-in_err-out g c =
+pub returns-in_err-byte : goal.returns-in_err-byte
+returns-in_err-byte g c =
     let m = meaning g.E.Engine c.args.engine.now in
     let y = meaning g.E.Engine c.loop-i.engine in
     let z = meaning g.E.Engine c.squeeze_byte.new.engine in
@@ -26,7 +26,7 @@ returns-in_err-out g c =
     in
     let back = err_from_is_err_and c.from_residual.result c.from_residual.ensures.1 in
     let t = refused m z (runs_to a (a + (i + 1))) (runs_to a (a + n)) (byte_at y.words (a + i) (a + i)) tt _ _ c.from_residual.result _ back
-    c.in_err-out.was (given_paid m a i y c.loop-i.invariant.0 1 _ _ c.squeeze_byte.ensures.paid_or_refused)
+    c.in_err-byte.was (given_paid m a i y c.loop-i.invariant.0 1 _ _ c.squeeze_byte.ensures.paid_or_refused)
     (given_spent m a i y c.loop-i.invariant.0 1 z c.squeeze_byte.ensures.runs_spent) le
     in
     record {
@@ -34,7 +34,6 @@ returns-in_err-out g c =
       words_run = t.1;
       bytes_given = none_made c.from_residual.result _ back;
       runs_spent = t.2;
-      same_lender = c.squeeze_byte.ensures.same_lender ∙ c.loop-i.invariant.2;
     }
 
 pub loop-i-preserved : goal.loop-i-preserved
@@ -44,13 +43,12 @@ loop-i-preserved g c =
     let z = meaning g.E.Engine c.squeeze_byte.new.engine in
     let a = c.args.given in
     let i = c.loop-i.i in
-    let b = c.in_ok-out.field-0 in
-    let done = c.in_ok-out.ensures in
+    let b = c.in_ok-byte.field-0 in
+    let done = c.in_ok-byte.ensures in
     let is : b ≡ byte_at y.words (a + i) (a + i) = paid_value (runs_to (a + i) (a + i + 1)) y b _ done.paid_or_refused in (
       given_more m a i y c.loop-i.invariant.0 1 z (byte_at y.words (a + i) (a + i)) b c.squeeze_byte.result
-          c.squeeze_byte.ensures.paid_or_refused c.in_ok-out.was c.squeeze_byte.ensures.runs_spent done.words_run,
+          c.squeeze_byte.ensures.paid_or_refused c.in_ok-byte.was c.squeeze_byte.ensures.runs_spent done.words_run,
       take_more_set c.loop-i.out i b (search rules) ∙ byte_more m a i y c.loop-i.invariant.0 b _ is c.loop-i.invariant.1,
-      c.squeeze_byte.ensures.same_lender ∙ c.loop-i.invariant.2,
     )
 
 pub returns : goal.returns
@@ -70,5 +68,4 @@ returns g c =
           ∙ c.loop-i.invariant.1
           ∙ ap (λ (j : ℕ). bytes_next j m.words a) all;
       runs_spent = t.engine_is ∙ ap (λ (ws : List ℕ). after (runs_to a (a + n)) ws m) (sym words_are);
-      same_lender = c.loop-i.invariant.2;
     }

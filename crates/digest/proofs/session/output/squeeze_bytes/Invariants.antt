@@ -8,4 +8,3 @@ abbrev pub invariant-loop-i : goal.invariant-loop-i
 invariant-loop-i g l =
     Given (meaning g.E.Engine l.initial.engine) l.given l.i (meaning g.E.Engine l.engine)
     × (take l.i l.out ≡ bytes_next l.i (g.E.Engine.words l.initial.engine) l.given)
-    × (g.E.Engine.lender l.engine ≡ g.E.Engine.lender l.initial.engine)
