@@ -1,7 +1,7 @@
 -- Pieces join: the whole blocks and the rest of two joined pieces are those of the rest of the first joined to the second.
 -- Assumes nothing.
 use Rattle.std.proofs.Common.{◌≡◌, ℕ, zero, suc, ◌+◌, ◌*◌, ◌/◌, ◌≤◌, List, ◌++◌, length, take, drop, sym, refl, ap, ◌∙◌, ap₂, arith}
-use lib.Lanes.{number_l}
+use Rattle.std.specs.Simd.Lanes.{number_l}
 use Rattle.engine.specs.Meaning.{mixed, permuted}
 use Rattle.std.proofs.lemmas.List.{drop-append-le, drop-drop, length-append, length-drop, take-append-le}
 use Rattle.suite.specs.Words.{word}

@@ -1,20 +1,11 @@
 -- Output joins: runs from place to place, and the bytes that they give.
 -- Assumes nothing.
-use Rattle.std.proofs.Common.{◌≡◌, ℕ, zero, suc, ◌+◌, ◌%◌, List, [], ◌∷◌, ◌++◌, length, get_or, sym, refl, ap, ◌∙◌, ap₂, arith}
+use Rattle.std.proofs.Common.{◌≡◌, ℕ, zero, suc, ◌+◌, ◌%◌, List, [], ◌∷◌, ◌++◌, get_or, sym, ap, ◌∙◌, ap₂, arith}
 use Rattle.engine.specs.Meaning.{permuted}
-use Rattle.std.proofs.lemmas.List.{append_assoc, append-nil, length_push}
+use Rattle.std.proofs.lemmas.List.{append_assoc, append-nil}
 use Rattle.suite.specs.Words.{bytes_of}
 use Rattle.sponge.specs.Steps.{byte_at, bytes_next, runs_to}
 use Rattle.sponge.specs.Sponge.{after_runs, blocks}
-
--- no run inside a block, one before its first byte
-pub runs_inside : (at : ℕ) → (at % 8 ≡ 0 → ⊥) → runs_to at (at + 1) ≡ 0
-unfolding runs_to blocks
-runs_inside at inside = omega arith
-
-pub runs_first : (at : ℕ) → at % 8 ≡ 0 → runs_to at (at + 1) ≡ 1
-unfolding runs_to blocks
-runs_first at first = omega arith
 
 pub runs_none : (at : ℕ) → runs_to at (at + 0) ≡ 0
 unfolding runs_to blocks
@@ -53,14 +44,3 @@ bytes_joined n (suc k) ws a =
     sym (append_assoc (bytes_next n ws a) (bytes_next k (after_runs (runs_to a (a + n)) ws) (a + n)) _)
     ∙ ap₂ (λ (front : List ℕ) (b : ℕ). front ++ b ∷ []) (bytes_joined n k ws a) (byte_later ws a n k)
     ∙ ap (λ (j : ℕ). bytes_next j ws a) e
-
-pub length_bytes : (n : ℕ) (ws : List ℕ) (a : ℕ) → length (bytes_next n ws a) ≡ n
-length_bytes zero ws a = refl
-length_bytes (suc n) ws a =
-    length_push (bytes_next n ws a) (byte_at ws a (a + n)) ∙ omega (arith, length_bytes n ws a)
-
--- the byte read from w0 after the run, if there was one
-pub byte_is : (bs : List ℕ) (w : ℕ) (v ws : List ℕ) (at : ℕ) → bs ≡ bytes_of w → w ≡ get_or v 0 0 → v ≡ after_runs (runs_to at (at + 1)) ws
-    → get_or bs (at % 8) 0 ≡ byte_at ws at at
-unfolding byte_at
-byte_is bs w v ws at p q r = ap (λ (x : List ℕ). get_or x (at % 8) 0) (p ∙ ap bytes_of (q ∙ ap (λ (x : List ℕ). get_or x 0 0) r))
