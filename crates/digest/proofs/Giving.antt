@@ -1,6 +1,6 @@
 -- An engine after some bytes of output, and after more of them.
 -- Assumes nothing.
-use Rattle.std.proofs.Common.{◌≡◌, ℕ, ◌+◌, ◌-◌, ◌/◌, true, List, [], ◌∷◌, ◌++◌, refl, sym, ap, ◌∙◌, arith, add-one}
+use Rattle.std.proofs.Common.{◌≡◌, ℕ, add-zero, ◌+◌, ◌-◌, ◌/◌, true, List, [], ◌∷◌, ◌++◌, refl, add-one}
 use Rattle.std.proofs.lemmas.List.{take_all, take_more_set}
 use Rattle.engine.specs.Meaning.{Meaning}
 use Rattle.engine.specs.Runs.{after, has}
@@ -21,10 +21,7 @@ pub same_words : (n : ℕ) (ws : List ℕ) → n ≡ 0 → after_runs n ws ≡ w
 same_words n ws e = rw e refl
 
 pub byte_here : (ws : List ℕ) (a n : ℕ) → byte_at (after_runs (runs_to a (a + n)) ws) (a + n) (a + n) ≡ byte_at ws a (a + n)
-byte_here ws a n =
-    let e : a + n + 0 ≡ a + n = omega arith in
-    let f : a + (n + 0) ≡ a + n = omega arith in
-    ap (byte_at (after_runs (runs_to a (a + n)) ws) (a + n)) (sym e) ∙ byte_later ws a n 0 ∙ ap (byte_at ws a) f
+byte_here ws a n = simp add-zero at (byte_later ws a n 0)
 
 pub bytes_more : (n : ℕ) (ws : List ℕ) (a : ℕ) → bytes_next (n + 1) ws a ≡ bytes_next n ws a ++ byte_at ws a (a + n) ∷ []
 bytes_more n ws a = rw add-one refl

@@ -1,4 +1,3 @@
-pub mod Decisions
 pub mod DigestBytes
 pub mod Giving
 pub mod OutputsJoin
