@@ -12,15 +12,6 @@ ok_same x y h = cc
 pub paid_value : {X : Type 0} (n : ℕ) (m : Meaning) (x v : X) → Ok x ≡ paid n m v → x ≡ v
 paid_value n m x v is = grind arith
 
--- the engine had the runs of an accepted step
-pub had : {X : Type 0} (n : ℕ) (m : Meaning) (v u : X) (res : Result X EngineFault) → res ≡ paid n m v → res ≡ Ok u → has n m ≡ true
-had n m v u res is ok = grind arith
-
--- an accepted step, whatever it answers
-pub accepted : {X Y : Type 0} (n : ℕ) (m : Meaning) (u v : X) (w : Y) (res : Result X EngineFault)
-    → res ≡ paid n m u → res ≡ Ok v → Ok w ≡ paid n m w
-accepted n m u v w res is ok = grind arith
-
 -- one more after i accepted ones, with other words in between
 pub turn : (m y w z : Meaning) (i rounds : ℕ) (vs us : List ℕ) (res : Result (Unit {0}) EngineFault) → rounds_allowed rounds ≡ true
     → y ≡ after i vs m → has i m ≡ true → w ≡ holding us y → (res, z) ≡ run rounds w → res ≡ Ok tt
@@ -28,10 +19,6 @@ pub turn : (m y w z : Meaning) (i rounds : ℕ) (vs us : List ℕ) (res : Result
 turn m y w z i rounds vs us res allowed p here q is ok = (grind arith, grind arith)
 
 -- an accepted step, and then another: the second is paid from what the first left
-pub next_had : {Y : Type 0} (m y : Meaning) (k n : ℕ) (w : Y) (res : Result Y EngineFault)
-    → y ≡ after k y.words m → has k m ≡ true → res ≡ paid n y w → res ≡ paid (k + n) m w
-next_had m y k n w res left here is = grind arith
-
 pub next : {X Y : Type 0} (m y : Meaning) (k n : ℕ) (u v : X) (w : Y) (prev : Result X EngineFault) (res : Result Y EngineFault)
     → y ≡ after k y.words m → prev ≡ paid k m u → prev ≡ Ok v → res ≡ paid n y w → res ≡ paid (k + n) m w
 next m y k n u v w prev res left was ok is = grind arith
@@ -46,19 +33,3 @@ pub refused : {X Y : Type 0} (m z : Meaning) (k n : ℕ) (v : X) (w : Y) (e : En
     → (out ≡ paid n m w) × IfOk out P × (z ≡ after n z.words m)
 refused m z k n v w e res out P back err is left le =
     (grind arith, rw back.1 tt, grind arith)
-
--- a step that makes no run is accepted, and leaves the engine as it is
-pub free : {X : Type 0} (n : ℕ) (m : Meaning) (v : X) → n ≡ 0 → Ok v ≡ paid n m v
-free n m v none = grind arith
-
-pub free_spent : (n : ℕ) (m : Meaning) → n ≡ 0 → m ≡ after n m.words m
-free_spent n m none = grind arith
-
--- what an engine answers that has the runs
-pub afforded : {X : Type 0} (n : ℕ) (m : Meaning) (v : X) → has n m ≡ true → Ok v ≡ paid n m v
-afforded n m v here = grind arith
-
--- a refused step makes nothing
-pub none_made : {Y : Type 0} {e : EngineFault} (out : Result Y EngineFault) (P : Y → Type 0)
-    → ((x : EngineFault) × (out ≡ Err x) × (x ≡ e)) → IfOk out P
-none_made out P back = rw back.1 tt

@@ -4,14 +4,12 @@ use Rattle.std.proofs.Common.{◌≡◌, ℕ, suc, ◌+◌, ◌-◌, ◌<◌, �
 use borrow.Rule.Slice.PartMut.{put_mid}
 use Rattle.std.specs.Simd.Lanes.{number_l}
 use Rattle.std.proofs.Math.Seq.{take-append-add}
-use Rattle.std.proofs.lemmas.List.{append_assoc, append-nil, drop_all, length-drop, length-set, length-take, length-take-le, places, take_all, take_more_set, take-replicate}
+use Rattle.std.proofs.lemmas.List.{append_assoc, append-nil, drop_all, length-drop, length-set, length-take-le, places, take_all, take_more_set, take-replicate}
 use Rattle.std.proofs.lemmas.Bool.{eq-eqb}
 use Rattle.suite.specs.Words.{word}
 use Rattle.suite.proofs.Words.{sum8, word_is}
 use Rattle.sponge.specs.Steps.{placing}
-use Rattle.sponge.specs.Held.{part_of}
 use Rattle.sponge.specs.Sponge.{padded}
-use Rattle.sponge.specs.declared.block.Block.{Block}
 
 module _ (blk : List ℕ) (n b : ℕ) (len : length blk ≡ 8) where
   pub place_whole : (v : ℕ) → n < 8 → 7 ≤ n → v ≡ sum8 (λ k. get_or (set blk n b) k 0) → (Some v, []) ≡ placing b (take n blk)
@@ -58,7 +56,3 @@ pub word_padded : (blk : List ℕ) (n v : ℕ) (marked zeros : List ℕ) → len
 word_padded blk n v marked zeros len lt mark is sum =
     sum ∙ sym (word_is _) ∙ ap (λ (x : List ℕ). word (put_mid (n + 1) (8 - (n + 1)) x zeros)) mark
     ∙ word_zeroed blk n zeros len lt (is ∙ ap (λ (x : List ℕ). replicate (length (take (8 - (n + 1)) (drop (n + 1) x))) 0) mark)
-
--- a block holds fewer bytes than it has room for
-pub part_short : (b : Block) → length (part_of b) < 8
-part_short b = let le = length-take b.filled b.bytes in omega (arith, b.partial)

@@ -6,10 +6,6 @@ use Rattle.std.proofs.lemmas.List.{append_assoc, append-nil}
 use Rattle.sponge.specs.Steps.{byte_at, bytes_next, runs_to}
 use Rattle.sponge.specs.Sponge.{after_runs, blocks}
 
-pub runs_none : (at : ℕ) → runs_to at (at + 0) ≡ 0
-unfolding runs_to blocks
-runs_none at = omega arith
-
 -- runs to a place, and on from there
 pub runs_joined : (a n k : ℕ) → runs_to a (a + n) + runs_to (a + n) (a + n + k) ≡ runs_to a (a + (n + k))
 unfolding runs_to blocks
