@@ -1,22 +1,13 @@
 -- Steps of a call that make runs one after another, and where one of them is refused.
 -- Assumes nothing.
-use Rattle.std.proofs.Common.{◌≡◌, ℕ, ◌+◌, ◌≤◌, true, List, IfOk, Ok, Err, Result, arith}
-use Rattle.engine.specs.Meaning.{Meaning, holding, permuted, rounds_allowed, run}
-use Rattle.engine.specs.Runs.{after, has, paid}
+use Rattle.std.proofs.Common.{◌≡◌, ℕ, ◌+◌, ◌≤◌, IfOk, Ok, Err, Result, arith}
+use Rattle.engine.specs.Meaning.{Meaning}
+use Rattle.engine.specs.Runs.{after, paid}
 use Rattle.engine.specs.declared.fault.EngineFault.{EngineFault}
-
-pub ok_same : {X E : Type 0} (x y : X) → ◌≡◌ {A = Result X E} (Ok x) (Ok y) → x ≡ y
-ok_same x y h = cc
 
 -- what an accepted step answers
 pub paid_value : {X : Type 0} (n : ℕ) (m : Meaning) (x v : X) → Ok x ≡ paid n m v → x ≡ v
 paid_value n m x v is = grind arith
-
--- one more after i accepted ones, with other words in between
-pub turn : (m y w z : Meaning) (i rounds : ℕ) (vs us : List ℕ) (res : Result (Unit {0}) EngineFault) → rounds_allowed rounds ≡ true
-    → y ≡ after i vs m → has i m ≡ true → w ≡ holding us y → (res, z) ≡ run rounds w → res ≡ Ok tt
-    → (z ≡ after (i + 1) (permuted rounds us) m) × (has (i + 1) m ≡ true)
-turn m y w z i rounds vs us res allowed p here q is ok = (grind arith, grind arith)
 
 -- an accepted step, and then another: the second is paid from what the first left
 pub next : {X Y : Type 0} (m y : Meaning) (k n : ℕ) (u v : X) (w : Y) (prev : Result X EngineFault) (res : Result Y EngineFault)
