@@ -1,4 +1,4 @@
--- What the calls of a session come to: the three stages that make runs, and what is left where one of them lacks a run.
+-- What the calls of the session come to: accepted just where the engine has the runs of the whole, the engine left, and the key.
 -- Assumes nothing.
 use Rattle.std.proofs.Common.{◌≡◌, ℕ, true, false, List, [], ◌∷◌, length, is_ok, Result, arith}
 use Rattle.std.proofs.lemmas.List.{append-nil}
