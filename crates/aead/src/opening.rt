@@ -40,11 +40,11 @@ fn open_blocks<E: Engine>(engine: &mut E, text: &mut [u8]) -> Result<(), EngineF
     ensures runs_spent { meaning E.Engine engine.new
         ≡ after (length text.old / 16) (E.words engine.new) (meaning E.Engine engine.old) }
 {
-    // Kept: an index, as in `seal_blocks`.
+    // Kept: the number of the block, as in `seal_blocks`.
     for i in 0..text.len() / 16 {
         let part = &mut text[16 * i..16 * i + 16];
-        uncover(&squeeze(engine)?, part);
-        absorb(engine, &block(part, 0))?;
+        uncover(&squeeze(engine), part);
+        absorb(engine, &block(part, 0));
         engine.run(8)?;
     }
     Ok(())
@@ -63,8 +63,8 @@ fn open_text<E: Engine>(engine: &mut E, text: &mut [u8]) -> Result<(), EngineFau
 {
     open_blocks(engine, text)?;
     let start = 16 * (text.len() / 16);
-    uncover(&squeeze(engine)?, &mut text[start..]);
-    absorb_rest(engine, text)?;
+    uncover(&squeeze(engine), &mut text[start..]);
+    absorb_rest(engine, text);
     Ok(())
 }
 

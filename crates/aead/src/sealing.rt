@@ -27,10 +27,10 @@ fn seal_blocks<E: Engine>(engine: &mut E, text: &mut [u8]) -> Result<(), EngineF
     ensures runs_spent { meaning E.Engine engine.new
         ≡ after (length text.old / 16) (E.words engine.new) (meaning E.Engine engine.old) }
 {
-    // Kept: an index, since of a slice nothing is known after `chunks_exact_mut` or `as_chunks_mut`, nor of a part after `first_chunk_mut`.
+    // Kept: the number of the block, since nothing is known of what a slice ends as after `chunks_exact_mut` or `as_chunks_mut`.
     for i in 0..text.len() / 16 {
-        absorb(engine, &block(text, i))?;
-        text[16 * i..16 * i + 16].copy_from_slice(&squeeze(engine)?);
+        absorb(engine, &block(text, i));
+        text[16 * i..16 * i + 16].copy_from_slice(&squeeze(engine));
         engine.run(8)?;
     }
     Ok(())
@@ -48,8 +48,8 @@ fn seal_text<E: Engine>(engine: &mut E, text: &mut [u8]) -> Result<(), EngineFau
         ≡ after (length text.old / 16) (E.words engine.new) (meaning E.Engine engine.old) }
 {
     seal_blocks(engine, text)?;
-    absorb_rest(engine, text)?;
-    let last = squeeze(engine)?;
+    absorb_rest(engine, text);
+    let last = squeeze(engine);
     let start = 16 * (text.len() / 16);
     let rest = &mut text[start..];
     rest.copy_from_slice(&last[..rest.len()]);

@@ -1,5 +1,7 @@
 // The steps that sealing and opening share. A step is refused only by an engine that lacks a run; it has then used the engine's runs up.
-ghost use Rattle.std.specs.Prelude.{◌≡◌, ◌+◌, ◌/◌, length, Ok, OnOk};
+// Kept: each step that makes runs, here and in sealing and opening, says `paid_or_refused` and `runs_spent` for itself: they relate its engine
+// before and after by its own count, and one definition of both would take their names from them.
+ghost use Rattle.std.specs.Prelude.{◌≡◌, ◌+◌, ◌/◌, length, OnOk};
 ghost use Rattle.engine.specs.Meaning.{holding, mixed};
 ghost use Rattle.engine.specs.Of.{meaning};
 ghost use Rattle.engine.specs.Runs.{after, paid};
@@ -20,33 +22,30 @@ const DOMAIN: u64 = 0x8000_0000_0000_0000;
 
 // Mixes a block into w0 and w1.
 #[tactic(auto, unfolding(crate::specs::Blocks::absorbed))]
-pub(crate) fn absorb<E: Engine>(engine: &mut E, block: &Block) -> Result<(), EngineFault>
-    ensures never_refused { result ≡ Ok tt }
+pub(crate) fn absorb<E: Engine>(engine: &mut E, block: &Block)
     ensures block_mixed { meaning E.Engine engine.new
         ≡ holding (absorbed (E.words engine.old) block.now) (meaning E.Engine engine.old) }
 {
     let [low, high] = words(block);
-    engine.mix(0, low)?;
-    engine.mix(1, high)?;
-    Ok(())
+    engine.mix(0, low).unwrap();
+    engine.mix(1, high).unwrap();
 }
 
 // Mixes in the padded rest of a text, with no run.
-pub(crate) fn absorb_rest<E: Engine>(engine: &mut E, text: &[u8]) -> Result<(), EngineFault>
-    ensures never_refused { result ≡ Ok tt }
+pub(crate) fn absorb_rest<E: Engine>(engine: &mut E, text: &[u8])
     ensures rest_mixed { meaning E.Engine engine.new
         ≡ holding (absorbed (E.words engine.old) (block_of text.now (length text.now / 16))) (meaning
         E.Engine engine.old) }
 {
-    absorb(engine, &block(text, text.len() / 16))
+    absorb(engine, &block(text, text.len() / 16));
 }
 
 // The bytes of w0 and w1.
 #[tactic(auto, unfolding(crate::specs::Blocks::rate))]
-pub(crate) fn squeeze<E: Engine>(engine: &E) -> Result<Block, EngineFault>
-    ensures bytes_read { result ≡ Ok (rate (E.words engine.now)) }
+pub(crate) fn squeeze<E: Engine>(engine: &E) -> Block
+    ensures bytes_read { result ≡ rate (E.words engine.now) }
 {
-    Ok(pair(engine.read(0)?, engine.read(1)?))
+    pair(engine.read(0).unwrap(), engine.read(1).unwrap())
 }
 
 // Initialization: the start value, key and nonce, run 12, the key again.
@@ -77,19 +76,18 @@ fn absorb_blocks<E: Engine>(engine: &mut E, parts: &Joined<'_>) -> Result<(), En
 {
     // Kept: the numbers of blocks, which are no places in a slice; an iterator of blocks over two parts would be a type of its own.
     for index in 0..parts.block_count() {
-        absorb(engine, &parts.block(index))?;
+        absorb(engine, &parts.block(index));
         engine.run(8)?;
     }
     Ok(())
 }
 
 // Marks the end of the associated data.
-fn mark_domain<E: Engine>(engine: &mut E) -> Result<(), EngineFault>
-    ensures never_refused { result ≡ Ok tt }
+fn mark_domain<E: Engine>(engine: &mut E)
     ensures mark_mixed { meaning E.Engine engine.new
         ≡ holding (mixed 4 0x8000000000000000 (E.words engine.old)) (meaning E.Engine engine.old) }
 {
-    engine.mix(4, DOMAIN)
+    engine.mix(4, DOMAIN).unwrap();
 }
 
 // Associated data, and then always the domain mark.
@@ -102,7 +100,7 @@ fn absorb_data<E: Engine>(engine: &mut E, parts: &Joined<'_>) -> Result<(), Engi
         ≡ after (data_blocks (length (joined parts.now))) (E.words engine.new) (meaning E.Engine engine.old) }
 {
     absorb_blocks(engine, parts)?;
-    mark_domain(engine)?;
+    mark_domain(engine);
     Ok(())
 }
 

@@ -10,28 +10,8 @@ pub type Block = [u8; 16];
 pub(crate) fn words(block: &Block) -> [u64; 2]
     ensures words_are { result ≡ word block.now ∷ word (drop 8 block.now) ∷ [] }
 {
-    let [
-        a0,
-        a1,
-        a2,
-        a3,
-        a4,
-        a5,
-        a6,
-        a7,
-        b0,
-        b1,
-        b2,
-        b3,
-        b4,
-        b5,
-        b6,
-        b7,
-    ] = *block;
-    [
-        u64::from_le_bytes([a0, a1, a2, a3, a4, a5, a6, a7]),
-        u64::from_le_bytes([b0, b1, b2, b3, b4, b5, b6, b7]),
-    ]
+    let (halves, _) = block.as_chunks::<8>();
+    [u64::from_le_bytes(halves[0]), u64::from_le_bytes(halves[1])]
 }
 
 // The bytes of two words.

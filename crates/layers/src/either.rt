@@ -4,15 +4,16 @@ ghost use Rattle.layers.specs.Chosen.{chosen};
 use engine::{Allowance, Engine, EngineFault};
 use permutation::State;
 
-// Kept: neither case is a failure or an absence, so it is no `Result` and no `Option`.
+// Kept: neither case is a failure or an absence, so it is no `Result` and no `Option`; and the kit's `Either`, like `Engine`, is of another
+// crate, so that it could not be given that trait here.
 #[derive(Drop)]
 pub enum Either<A, B> {
     First(A),
     Second(B),
 }
 
-// Kept: each call is a `match`, since the two engines have two types: one closure cannot serve both, and a `dyn Engine` that is made and
-// kept would want the heap.
+// Kept: each call is a `match`, since the two engines have two types: one closure cannot serve both, and a `dyn Engine` made of a type
+// parameter gets no proof yet.
 impl<A: Engine, B: Engine> Engine for Either<A, B> {
     ghost words = { chosen A.Engine.words B.Engine.words };
 

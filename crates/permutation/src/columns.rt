@@ -32,15 +32,17 @@ fn look_up(x: State) -> State
 
 // The S-box's entry of a column.
 fn entry(column: usize) -> u8
-    requires { column < 32 }
+    requires five_bits { column < 32 }
     ensures entry_is { result ≡ slice_index sbox column }
 {
     SBOX[column]
 }
 
 // Column `j`: bit `j` of the five words, that of w0 highest.
+// Kept: `j` is a number here and below, since a type for a place below 64 would be taken apart at each shift; and the five words are written
+// out, since each has a weight of its own.
 fn column_at(x: &State, j: u32) -> usize
-    requires { j < 64 }
+    requires in_the_word { j < 64 }
     ensures column_is { result ≡ column x.now j }
     ensures five_bits { result < 32 }
 {
@@ -54,7 +56,7 @@ fn column_at(x: &State, j: u32) -> usize
 
 // Sets the five bits of `entry` into column `j`, which is zero so far.
 fn set_column(y: &mut State, j: u32, entry: u64)
-    requires { j < 64 }
+    requires in_the_word { j < 64 }
     ensures column_set { y.new ≡ with_column y.old j entry }
 {
     let [y0, y1, y2, y3, y4] = *y;
@@ -69,7 +71,7 @@ fn set_column(y: &mut State, j: u32, entry: u64)
 
 // Bit `j` of a word.
 fn bit_at(word: u64, j: u32) -> u64
-    requires { j < 64 }
+    requires in_the_word { j < 64 }
     ensures bit_is { result ≡ bit word j }
 {
     word >> j & 1
@@ -77,7 +79,8 @@ fn bit_at(word: u64, j: u32) -> u64
 
 // The word with a bit ORed in at place `j`.
 fn with_bit(word: u64, j: u32, bit: u64) -> u64
-    requires { (j < 64) × (bit < 2) }
+    requires in_the_word { j < 64 }
+    requires one_bit { bit < 2 }
     ensures bit_set { result ≡ bit_or word (bit * 2 ^ j) }
 {
     word | bit << j

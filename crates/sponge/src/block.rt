@@ -5,7 +5,8 @@ ghost use Rattle.sponge.specs.Sponge.{padded};
 ghost use Rattle.suite.specs.Words.{word};
 
 // A block that is not yet whole: its first bytes are filled.
-// Kept: eight bytes and a count beside them, since a `Vec` would want the heap, which no library crate uses.
+// Kept: eight bytes and a count beside them. A `Vec` would want the heap, which no library crate uses, and the library crates stand on the
+// standard library alone.
 #[derive(Clone, Copy)]
 pub struct Block {
     bytes: [u8; 8],

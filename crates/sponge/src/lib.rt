@@ -2,7 +2,8 @@
 //
 // A step that makes runs promises what it answers for so many runs (`paid_or_refused`), what an accepted step leaves, and that the runs are
 // spent, also where it is refused (`runs_spent`). What is left of a refused step's words and block is the caller's to clear.
-// Kept: each step states both for itself, since they relate one call's engine before and after by its own count: no type holds that.
+// Kept: each step says both for itself: they relate its engine before and after by its own count, and one definition of both would take their
+// names from them.
 #![tactic(auto)]
 
 mod absorbing;

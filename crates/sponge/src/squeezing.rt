@@ -1,5 +1,5 @@
 // Squeezing from an engine. A step is refused only by an engine that lacks a run; it has then used the engine's runs up.
-ghost use Rattle.std.specs.Prelude.{◌≡◌, ◌+◌, Ok, OnOk, slice_index};
+ghost use Rattle.std.specs.Prelude.{◌≡◌, ◌+◌, OnOk, slice_index};
 ghost use Rattle.engine.specs.Of.{meaning};
 ghost use Rattle.engine.specs.Runs.{after, paid};
 ghost use Rattle.sponge.specs.Sponge.{after_runs};
@@ -24,10 +24,10 @@ fn refill<E: Engine>(engine: &mut E, at: usize) -> Result<(), EngineFault>
 }
 
 // The word that is put out: w0.
-fn output_word<E: Engine>(engine: &E) -> Result<u64, EngineFault>
-    ensures first_word { result ≡ Ok (slice_index (E.words engine.now) 0) }
+fn output_word<E: Engine>(engine: &E) -> u64
+    ensures first_word { result ≡ slice_index (E.words engine.now) 0 }
 {
-    engine.read(0)
+    engine.read(0).unwrap()
 }
 
 // The byte at a place of the output, where all before it were given.
@@ -41,6 +41,5 @@ pub fn squeeze_byte<E: Engine>(engine: &mut E, at: usize) -> Result<u8, EngineFa
         ≡ after (runs_to at (at + 1)) (E.words engine.new) (meaning E.Engine engine.old) }
 {
     refill(engine, at)?;
-    let word = output_word(engine)?;
-    Ok(word.to_le_bytes()[at % 8])
+    Ok(output_word(engine).to_le_bytes()[at % 8])
 }

@@ -8,20 +8,19 @@ use Rattle.digest.specs.Phases.{AbsorbingPhase, starting}
 use Rattle.digest.specs.Sessions.{taking_or_stopped}
 use Rattle.digest.specs.declared.session.Absorbing as session
 use Rattle.station.specs.Built.{Pile}
-use Rattle.station.specs.Digests.{custom_of, typed}
+use Rattle.station.specs.Digests.{Typed, custom_of, typed}
 use Rattle.station.specs.Piles.{pile_meaning}
 use Rattle.station.specs.declared.bench.Bench.{Bench}
 use Rattle.station.specs.declared.command.Kind.{Kind}
 use Rattle.station.specs.declared.desk.Desk.{Desk}
 use Rattle.station.specs.declared.desk.Desk.TheVariants.{Idle, Absorbing, Squeezing}
-use Rattle.station.specs.declared.digests.Digest.{Digest}
 
 -- a session that takes a message on the bench's engine
 abbrev pub pile_absorbing : session.Absorbing Pile → AbsorbingPhase
 pile_absorbing s = taking_or_stopped s.limit (pile_meaning s.engine) s.message
 
 -- opened: a session started on the bench's engine, or the bench as it was where the customization has more than 256 bytes
-abbrev pub Opened : Digest → Bench → Result (Unit {0}) SuiteFault → Desk → Type 0
+abbrev pub Opened : Typed → Bench → Result (Unit {0}) SuiteFault → Desk → Type 0
 Opened d b (Ok x) (Idle c) = ⊥
 Opened d b (Ok x) (Absorbing k s) =
     (nat_le (length (custom_of d)) 256 ≡ true) × (k ≡ b.kind) × (pile_absorbing s ≡ starting (typed d) (pile_meaning b.engine))

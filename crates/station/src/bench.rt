@@ -1,5 +1,5 @@
 // The bench: the engine that the operator chose, with the quotas set on it.
-ghost use Rattle.std.specs.Prelude.{◌≡◌};
+ghost use Rattle.std.specs.Prelude.{◌≡◌, ◌<◌};
 ghost use Rattle.engine.specs.Of.{meaning};
 ghost use Rattle.station.specs.Built.{Built};
 ghost use Rattle.station.specs.Permute.{five_read, permute_once};
@@ -11,6 +11,7 @@ use engine::{Engine, EngineFault};
 use engines::{ColumnEngine, WordEngine};
 use layers::{Either, Quota};
 use permutation::State;
+use std::array::from_fn;
 
 pub type Chosen = Either<WordEngine, ColumnEngine>;
 
@@ -70,14 +71,11 @@ fn pile(kind: Kind, quotas: Quotas) -> Pile
 pub fn five_words<E: Engine>(engine: &E) -> State
     ensures words_read { result ≡ five_read (E.words engine.now) }
 {
-    // Kept: five reads, since `array::from_fn` asks its closure's clauses to say that each place is below 5.
-    [
-        engine.read(0).unwrap(),
-        engine.read(1).unwrap(),
-        engine.read(2).unwrap(),
-        engine.read(3).unwrap(),
-        engine.read(4).unwrap(),
-    ]
+    from_fn(
+        |place| -> u64
+            requires in_the_state { place < 5 }
+        { engine.read(place).unwrap() },
+    )
 }
 
 // Loads the words, makes one run, and reads the words again.

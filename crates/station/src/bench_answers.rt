@@ -1,7 +1,7 @@
 // The answers of the commands that need the engine.
 use crate::bench::{Bench, Pile, permute};
 use crate::command::{AeadJob, BenchCommand, DigestJob};
-use crate::digests::{Digest, digest_once};
+use crate::digests::{Function, digest_once};
 use crate::shown::{Five, Outcome, Refused, Told, UNWRITTEN, digits};
 use aead::{Context, open, seal};
 use engine::Engine;
@@ -110,8 +110,8 @@ impl Bench {
             return Ok(());
         }
         let field = match job.digest {
-            Digest::Hash256 => "digest",
-            Digest::Xof128 | Digest::Cxof128(_) => "output",
+            Function::Hash256 => "digest",
+            Function::Xof128 | Function::Cxof128(_) => "output",
         };
         let output = digits(rt.alloc(), output.as_slice())?;
         println!(rt; "{name} {outcome} {field}={output} allowance={allowance}")?;

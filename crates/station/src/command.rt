@@ -1,7 +1,7 @@
 // The commands.
 ghost use Rattle.std.specs.Prelude.{◌≡◌};
 
-use crate::digests::Digest;
+use crate::digests::Typed;
 use crate::line::Reason;
 use aead::{Block, Context, Joined};
 use permutation::State;
@@ -75,7 +75,7 @@ impl AeadJob {
 // A message to digest in one call, with an output of `room` bytes.
 #[derive(Drop)]
 pub struct DigestJob {
-    pub digest: Digest,
+    pub digest: Typed,
     pub message: Vec<u8>,
     pub room: usize,
 }
@@ -105,6 +105,6 @@ pub enum SessionCommand {
 pub enum Command {
     Bench(BenchCommand),
     // Opens a session.
-    Start(Digest),
+    Start(Typed),
     Session(SessionCommand),
 }

@@ -3,7 +3,7 @@ ghost use Rattle.station.specs.Desks.{Closed, Opened};
 
 use crate::bench::{Bench, Pile};
 use crate::command::Kind;
-use crate::digests::{Digest, start_session};
+use crate::digests::{Typed, start_session};
 use digest::{Absorbing, Squeezing};
 use suite::SuiteFault;
 
@@ -19,10 +19,10 @@ pub type Answered = (Desk, anyhow::Result<()>);
 
 impl Desk {
     // Opens a session on the bench's engine. A customization that is too long is refused, and the bench stays.
-    pub fn open(bench: Bench, digest: &Digest) -> (Desk, Result<(), SuiteFault>)
+    pub fn open(bench: Bench, digest: &Typed) -> (Desk, Result<(), SuiteFault>)
         ensures started_or_refused { Opened digest.now bench result.1 result.0 }
     {
-        match digest.function() {
+        match digest.admitted() {
             Ok(function) => {
                 let Bench { kind, engine } = bench;
                 (

@@ -129,10 +129,9 @@ impl<'a> Line<'a> {
 
     // A word of the state: 16 hexadecimal digits.
     pub fn state_word(&mut self) -> Result<u64, Reason> {
-        match exactly(self.some_word()?) {
-            Ok(bytes) => Ok(u64::from_be_bytes(bytes)),
-            Err(_) => Err(Reason::NoHex),
-        }
+        exactly(self.some_word()?)
+            .map(u64::from_be_bytes)
+            .map_err(|_| Reason::NoHex)
     }
 }
 

@@ -1,6 +1,6 @@
 // Commands read from their lines.
 use crate::command::{AeadJob, BenchCommand, Command, DigestJob, Quotas, SessionCommand};
-use crate::digests::Digest;
+use crate::digests::{Function, Typed};
 use crate::line::{Line, Reason, count};
 use std::array::try_from_fn;
 
@@ -68,26 +68,30 @@ fn parse_aead(words: &mut Line<'_>) -> Result<AeadJob, Reason> {
     })
 }
 
+// The function with the customization that follows, where it takes one.
+fn parse_custom(function: Function<()>, words: &mut Line<'_>) -> Result<Typed, Reason> {
+    Ok(match function {
+        Function::Hash256 => Function::Hash256,
+        Function::Xof128 => Function::Xof128,
+        Function::Cxof128(()) => Function::Cxof128(words.bytes()?),
+    })
+}
+
 fn parse_start(words: &mut Line<'_>) -> Result<Command, Reason> {
-    let digest = match words.some_word()? {
-        "hash256" => Digest::Hash256,
-        "xof128" => Digest::Xof128,
-        "cxof128" => Digest::Cxof128(words.bytes()?),
-        _ => return Err(Reason::UnknownWord),
-    };
-    Ok(Command::Start(digest))
+    let function = words.some_word()?.parse()?;
+    Ok(Command::Start(parse_custom(function, words)?))
 }
 
 // The length of a digest of Hash256.
 const HASH256_ROOM: usize = 32;
 
 fn parse_digest_job(name: &str, words: &mut Line<'_>) -> Result<DigestJob, Reason> {
-    let (room, digest) = match name {
-        "hash256" => (HASH256_ROOM, Digest::Hash256),
-        "xof128" => (words.room()?, Digest::Xof128),
-        "cxof128" => (words.room()?, Digest::Cxof128(words.bytes()?)),
-        _ => return Err(Reason::UnknownWord),
+    let function = name.parse()?;
+    let room = match function {
+        Function::Hash256 => HASH256_ROOM,
+        Function::Xof128 | Function::Cxof128(()) => words.room()?,
     };
+    let digest = parse_custom(function, words)?;
     let message = words.bytes()?;
     Ok(DigestJob {
         digest,

@@ -1,13 +1,13 @@
 // The answers of the commands to a session.
 use crate::bench::{Bench, Pile, five_words};
 use crate::desk::{Answered, Desk};
-use crate::digests::Digest;
+use crate::digests::Typed;
 use crate::shown::{Five, Outcome, Told, UNWRITTEN, digits};
 use digest::{Absorbing, Squeezing};
 use engine::Engine;
 use suite::SuiteFault;
 
-pub fn start(rt: &HostRuntime, bench: Bench, digest: &Digest) -> Answered {
+pub fn start(rt: &HostRuntime, bench: Bench, digest: &Typed) -> Answered {
     let (desk, result) = Desk::open(bench, digest);
     (desk, show(rt, "start", result))
 }

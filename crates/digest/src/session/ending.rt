@@ -1,4 +1,6 @@
 // Ending a session, in either phase, and stopping one.
+// Kept: `end` and `stop` twice. One type over its phase, `Session<E, P>`, would need a trait of the phases to say that what was given is within
+// the limit, for the sake of these two short methods.
 ghost use Rattle.std.specs.Prelude.{◌≡◌};
 ghost use Rattle.engine.specs.Of.{meaning};
 ghost use Rattle.engine.specs.Runs.{wiped};

@@ -46,6 +46,7 @@ impl<E: Engine> Absorbing<E> {
             message,
             limit,
         } = self;
+        // Kept: a `match`; with `message.map(..)` over a closure that mixes, `returns` stays open.
         let given = match message {
             Some(message) => {
                 let _ = engine.mix(0, message.block.padded_word());
