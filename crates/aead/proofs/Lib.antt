@@ -2,7 +2,7 @@ mod Blocks
 mod Bytes
 mod CallLaws
 mod Chains
-mod Inverse
+pub mod Inverse
 mod Made
 mod Opens
 mod Outcomes
