@@ -11,7 +11,8 @@ use Rattle.frame.specs.Laws.{MadeOf, NoByteUnclaimed}
 use Rattle.frame.specs.Reading.{Parts, fields_in, fitting, marked, parts_by, reading, trailer_in}
 use Rattle.frame.specs.declared.fault.LinkFault.{LinkFault}
 use Rattle.frame.specs.declared.fault.LinkFault.TheVariants.{FrameTooShort, MarkMissing, WrongLengths}
-use Rattle.frame.proofs.Numbers.{bytes_of_number}
+use Rattle.frame.proofs.Framed.{reads_back}
+use Rattle.frame.proofs.Numbers.{bytes_of_number, number_below}
 
 -- a question that was passed
 passed : (b : Bool) (e : LinkFault) (x : Result Parts LinkFault) (p : Parts) → cond b (Err e) x ≡ Ok p → (b ≡ false) × (x ≡ Ok p)
@@ -76,7 +77,9 @@ made_of frame p bytes e =
     let long = r.long in
     let size = r.size in
     let q = parts_by f frame in
-    let last : trailer f ≡ t = trailer_of t (length-drop (length frame - 16) frame ∙ omega arith) (All-drop _ (length frame - 16) frame bytes) r.mark in
+    let all : Bytes t = All-drop _ (length frame - 16) frame bytes in
+    let sixteen : length t ≡ 16 = simp length-drop (omega arith) in
+    let last : trailer f ≡ t = trailer_of t sixteen all r.mark in
     let at : length frame - 32 ≡ f.header + f.body = omega arith in
     let behind : length frame - 16 ≡ f.header + f.body + 16 = omega arith in
     let made : MadeOf frame q = record {
@@ -96,11 +99,36 @@ made_of frame p bytes e =
       tag_length = length-take-le 16 (drop (length frame - 32) frame) (simp length-drop (omega arith));
       header_within = r.header_within;
       body_within = r.body_within;
+      named = (
+        omega (arith, number_below 4 (take 4 (drop 6 t)) (length-take-le 4 (drop 6 t) (simp length-drop (omega arith))) (All-take _ 4 (drop 6 t) (All-drop _ 6 t all))),
+        omega (arith, number_below 6 (take 6 t) (length-take-le 6 t (omega arith)) (All-take _ 6 t all)),
+      );
     } in
     subst (λ (x : Parts). MadeOf frame x) r.parts made
 
+reads_as : (frame : List ℕ) (p : Parts) → MadeOf frame p → reading frame ≡ Ok p
+reads_as frame p m =
+    let same : ◌≡◌ {A = Parts} (record {
+      header = p.header;
+      ciphertext = p.ciphertext;
+      tag = p.tag;
+      sealed = p.ciphertext ++ p.tag;
+      trailer = trailer p.fields;
+      fields = p.fields;
+    }) p = λ i. record {
+      header = p.header;
+      ciphertext = p.ciphertext;
+      tag = p.tag;
+      sealed = sym m.sealed_is i;
+      trailer = sym m.trailer_is i;
+      fields = p.fields;
+    } in
+    ap reading m.whole
+    ∙ reads_back p.header p.ciphertext p.tag p.fields m.named m.header_length m.body_length m.tag_length m.header_within m.body_within
+    ∙ ap Ok same
+
 pub no_byte_unclaimed : NoByteUnclaimed
 no_byte_unclaimed = record {
-  made_of = made_of;
+  exactly = λ frame p bytes. (made_of frame p bytes, reads_as frame p);
   no_other = λ frame frame' p bytes bytes' e e'. (made_of frame p bytes e).whole ∙ sym (made_of frame' p bytes' e').whole;
 }

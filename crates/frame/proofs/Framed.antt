@@ -2,13 +2,13 @@
 -- Assumes nothing.
 use Rattle.std.proofs.Common.{◌≡◌, ℕ, ◌+◌, ◌-◌, ◌^◌, ◌<◌, ◌≤◌, List, ◌++◌, length, take, drop, true, Ok, sym, refl, ap, ◌∙◌, append_assoc, arith}
 use Rattle.std.proofs.lemmas.Bool.{le-leb, le-ltb, ne_eqb, eq-eqb, and_from}
-use Rattle.std.proofs.lemmas.List.{length-append, length-drop, take_at, drop_at, drop-drop, take-append-le, drop-append-le}
+use Rattle.std.proofs.lemmas.List.{length-append, length-drop, take_at, drop_at, take-append-drop, length-take-le}
 use Rattle.suite.specs.Words.{bytes_of}
 use Rattle.aead.specs.Cipher as aead
 use Rattle.aead.specs.Cipher.{data_blocks, ready, sealed, tag_of}
 use Rattle.aead.proofs.Inverse.{length_ciphertext}
 use Rattle.frame.specs.Frame.{cost, fields_of, framed, nonce, sealed_body, trailer}
-use Rattle.frame.specs.Laws.{FramedReadsBack, LengthAndCost, Named, Within}
+use Rattle.frame.specs.Laws.{FramedReadsBack, LengthAndCost, Named}
 use Rattle.frame.specs.Reading.{fields_in, fitting, marked, parts_by, reading, trailer_in}
 use Rattle.frame.specs.declared.trailer.Fields.{Fields}
 use Rattle.frame.proofs.Numbers.{number_fits}
@@ -26,63 +26,6 @@ fields_back f n s h b =
     let eb : (fields_in (trailer f)).body ≡ f.body = number_fits 2 f.body (omega arith) in
     λ i. record { number = en i; station = es i; header = eh i; body = eb i }
 
-module _ (key : List ℕ) (station number : ℕ) (header body : List ℕ) where
-  abbrev last : List ℕ
-  last = trailer (fields_of station number header body)
-
-  abbrev text : List ℕ
-  text = sealed_body key station number header body
-
-  abbrev frame : List ℕ
-  frame = framed key station number header body
-
-  text_length : length text ≡ length body + 16
-  text_length = length_sealed key (nonce station number) (header ++ last) body
-
-  pub framed_length : length frame ≡ length header + length body + 32
-  framed_length = let s = text_length in simp length-append (omega arith)
-
-  framed_last : trailer_in frame ≡ last
-  framed_last =
-      let l = framed_length in
-      let s = text_length in
-      drop_at (header ++ text) last (length frame - 16) (simp length-append (omega arith))
-
-  behind_header : drop (length header) frame ≡ text ++ last
-  behind_header = ap (drop (length header)) (append_assoc header text last) ∙ drop_at header (text ++ last) (length header) refl
-
-  module _ (named : Named station number) (within : Within header body) where
-    fields_are : fields_in (trailer_in frame) ≡ fields_of station number header body
-    fields_are = ap fields_in framed_last ∙ fields_back (fields_of station number header body) named.1 named.0 within.0 within.1
-
-    parts_are : parts_by (fields_of station number header body) frame ≡ record {
-      header = header;
-      ciphertext = take (length body) text;
-      tag = drop (length body) text;
-      sealed = text;
-      trailer = last;
-      fields = fields_of station number header body;
-    }
-    parts_are =
-        let l = framed_length in
-        let s = text_length in
-        let eh : take (length header) frame ≡ header =
-        ap (take (length header)) (append_assoc header text last) ∙ take_at header (text ++ last) (length header) refl
-        in
-        let ec : take (length body) (drop (length header) frame) ≡ take (length body) text =
-        ap (take (length body)) behind_header ∙ take-append-le (length body) text last (omega arith)
-        in
-        let before : length frame - 32 ≡ length header + length body = omega arith in
-        let et : take 16 (drop (length frame - 32) frame) ≡ drop (length body) text =
-        ap (λ k. take 16 (drop k frame)) before
-        ∙ ap (take 16) (sym (drop-drop (length body) (length header) frame) ∙ ap (drop (length body)) behind_header ∙ drop-append-le (length body) text last (omega arith))
-        ∙ take_at (drop (length body) text) last 16 (length-drop (length body) text ∙ omega arith)
-        in
-        let es : take (length body + 16) (drop (length header) frame) ≡ text =
-        ap (take (length body + 16)) behind_header ∙ take_at text last (length body + 16) s
-        in
-        λ i. record { header = eh i; ciphertext = ec i; tag = et i; sealed = es i; trailer = framed_last i; fields = fields_of station number header body }
-
 -- the three questions answered yes
 pub reads : (frame : List ℕ) (f : Fields) → 32 ≤ length frame → marked (trailer_in frame) ≡ true → fields_in (trailer_in frame) ≡ f
     → f.header ≤ 256 → f.body ≤ 1200 → f.header + f.body + 32 ≡ length frame → reading frame ≡ Ok (parts_by f frame)
@@ -93,12 +36,72 @@ reads frame f long mark is h b size =
     in
     rw (le-ltb (length frame) 32 long, mark, fit) (ap (λ (x : Fields). Ok (parts_by x frame)) is)
 
+-- parts of the right lengths, with the trailer that says so
+module _ (header ciphertext tag : List ℕ) (f : Fields) (named : Named f.station f.number) (h : length header ≡ f.header) (b : length ciphertext ≡ f.body)
+    (sixteen : length tag ≡ 16) (hw : f.header ≤ 256) (bw : f.body ≤ 1200) where
+  abbrev frame : List ℕ
+  frame = header ++ ciphertext ++ tag ++ trailer f
+
+  size : length frame ≡ f.header + f.body + 32
+  size = simp length-append (omega arith)
+
+  last : trailer_in frame ≡ trailer f
+  last = let l = size in drop_at (header ++ ciphertext ++ tag) (trailer f) (length frame - 16) (simp length-append (omega arith))
+
+  behind_header : drop f.header frame ≡ ciphertext ++ tag ++ trailer f
+  behind_header = simp append_assoc (drop_at header (ciphertext ++ (tag ++ trailer f)) f.header h)
+
+  parts_are : parts_by f frame
+      ≡ record { header = header; ciphertext = ciphertext; tag = tag; sealed = ciphertext ++ tag; trailer = trailer f; fields = f }
+  parts_are =
+      let l = size in
+      let front : take f.header frame ≡ header = simp append_assoc (take_at header (ciphertext ++ (tag ++ trailer f)) f.header h) in
+      let middle : take f.body (drop f.header frame) ≡ ciphertext =
+      ap (take f.body) behind_header ∙ simp append_assoc (take_at ciphertext (tag ++ trailer f) f.body b)
+      in
+      let both : take (f.body + 16) (drop f.header frame) ≡ ciphertext ++ tag =
+      ap (take (f.body + 16)) behind_header ∙ take_at (ciphertext ++ tag) (trailer f) (f.body + 16) (simp length-append (omega arith))
+      in
+      let behind : take 16 (drop (length frame - 32) frame) ≡ tag =
+      ap (λ x. take 16 (drop (length frame - 32) x)) (append_assoc (header ++ ciphertext) tag (trailer f))
+      ∙ ap (take 16) (drop_at (header ++ ciphertext) (tag ++ trailer f) (length frame - 32) (simp length-append (omega arith)))
+      ∙ take_at tag (trailer f) 16 sixteen
+      in
+      λ i. record { header = front i; ciphertext = middle i; tag = behind i; sealed = both i; trailer = last i; fields = f }
+
+  pub reads_back : reading frame
+      ≡ Ok (record { header = header; ciphertext = ciphertext; tag = tag; sealed = ciphertext ++ tag; trailer = trailer f; fields = f })
+  reads_back =
+      let l = size in
+      reads frame f (omega arith) (ap marked last) (ap fields_in last ∙ fields_back f named.1 named.0 hw bw) hw bw (sym l) ∙ ap Ok parts_are
+
+module _ (key : List ℕ) (station number : ℕ) (header body : List ℕ) where
+  abbrev text : List ℕ
+  text = sealed_body key station number header body
+
+  text_length : length text ≡ length body + 16
+  text_length = length_sealed key (nonce station number) (header ++ trailer (fields_of station number header body)) body
+
+  framed_length : length (framed key station number header body) ≡ length header + length body + 32
+  framed_length = let s = text_length in simp length-append (omega arith)
+
+  -- ciphertext and tag apart
+  parted : framed key station number header body
+      ≡ header ++ take (length body) text ++ drop (length body) text ++ trailer (fields_of station number header body)
+  parted =
+      ap (λ x. header ++ x ++ trailer (fields_of station number header body)) (sym (take-append-drop (length body) text))
+      ∙ ap (λ x. x ++ trailer (fields_of station number header body)) (sym (append_assoc header (take (length body) text) (drop (length body) text)))
+
 pub framed_reads_back : FramedReadsBack
 framed_reads_back key header body station number named within =
-    let l = framed_length key station number header body in
-    reads (framed key station number header body) (fields_of station number header body) (omega arith) (ap marked (framed_last key station number header body))
-    (fields_are key station number header body named within) within.0 within.1 (sym l)
-    ∙ ap Ok (parts_are key station number header body named within)
+    let t = sealed_body key station number header body in
+    let f = fields_of station number header body in
+    let l = text_length key station number header body in
+    ap reading (parted key station number header body)
+    ∙ reads_back header (take (length body) t) (drop (length body) t) f named refl (length-take-le (length body) t (omega arith))
+    (simp length-drop (omega arith)) within.0 within.1
+    ∙ ap (λ (x : List ℕ). Ok (record { header = header; ciphertext = take (length body) t; tag = drop (length body) t; sealed = x; trailer = trailer f; fields = f }))
+    (take-append-drop (length body) t)
 
 cost_of : (h b : ℕ) → aead.cost (h + 16) b ≡ cost h b
 unfolding data_blocks aead.cost

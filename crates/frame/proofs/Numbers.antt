@@ -63,3 +63,6 @@ bytes_of_number k ds e h = ap (λ j. bytes_high_first j (number_of ds)) (sym e) 
 -- a number that fits its bytes is read back
 pub number_fits : (k n : ℕ) → n < 256 ^ k → number_of (bytes_high_first k n) ≡ n
 number_fits k n h = number_bytes k n ∙ mod-eq_of_lt h
+
+pub number_below : (k : ℕ) (ds : List ℕ) → length ds ≡ k → Bytes ds → number_of ds < 256 ^ k
+number_below k ds e h = rw (← e) (number_lt 256 ds h)

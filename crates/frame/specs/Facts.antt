@@ -5,13 +5,13 @@ use Rattle.engine.specs.Facts.{Facts}
 use Rattle.engine.specs.declared.fault.Layer.TheVariants.{Link}
 use Rattle.suite.specs.Facts as suite
 use Rattle.frame.specs.declared.fault.LinkFault.{LinkFault}
-use Rattle.frame.specs.declared.fault.LinkFault.TheVariants.{Suite, NameLength, SameStation, NumberOutOfRange, PartTooLong, OutputTooShort, FrameTooShort, MarkMissing, WrongLengths, WrongStation, WrongNumber}
+use Rattle.frame.specs.declared.fault.LinkFault.TheVariants.{Suite, NameOutOfRange, SameStation, NumberOutOfRange, PartTooLong, OutputTooShort, FrameTooShort, MarkMissing, WrongLengths, WrongStation, WrongNumber}
 
 -- a refusal of the suite keeps its number, its layer and its place; the place of a trailer's refusal is where in it the field begins
 abbrev pub facts : LinkFault → Facts
 facts (Suite fault) = suite.facts fault
 facts OutputTooShort = record { number = 9; layer = Link; place = 0 }
-facts NameLength = record { number = 12; layer = Link; place = 0 }
+facts NameOutOfRange = record { number = 12; layer = Link; place = 0 }
 facts SameStation = record { number = 13; layer = Link; place = 0 }
 facts NumberOutOfRange = record { number = 14; layer = Link; place = 0 }
 facts PartTooLong = record { number = 15; layer = Link; place = 0 }
@@ -24,7 +24,7 @@ facts WrongNumber = record { number = 20; layer = Link; place = 0 }
 -- a refusal with the runs that the call had completed
 abbrev pub stamped : ℕ → LinkFault → LinkFault
 stamped runs (Suite fault) = Suite (suite.stamped runs fault)
-stamped runs NameLength = NameLength
+stamped runs NameOutOfRange = NameOutOfRange
 stamped runs SameStation = SameStation
 stamped runs NumberOutOfRange = NumberOutOfRange
 stamped runs PartTooLong = PartTooLong

@@ -30,8 +30,8 @@ framed key station number header body =
 
 -- how long a frame is
 abbrev pub frame_length : ℕ → ℕ → ℕ
-frame_length h b = h + b + 32
+frame_length header body = header + body + 32
 
 -- the runs that sealing and opening take
 abbrev pub cost : ℕ → ℕ → ℕ
-cost h b = 4 + h / 16 + b / 16
+cost header body = 4 + header / 16 + body / 16

@@ -38,10 +38,11 @@ pub record MadeOf (frame : List ℕ) (p : Parts) : Type 0 where
   pub tag_length : length p.tag ≡ 16
   pub header_within : p.fields.header ≤ 256
   pub body_within : p.fields.body ≤ 1200
+  pub named : Named p.fields.station p.fields.number
 
--- a frame that reads is its parts and the trailer of its fields, and no other frame reads as these
+-- a frame reads as these parts exactly where it is made of them, and no other frame reads as these
 pub record NoByteUnclaimed : Type 0 where
-  pub made_of : (frame : List ℕ) (p : Parts) → Bytes frame → reading frame ≡ Ok p → MadeOf frame p
+  pub exactly : (frame : List ℕ) (p : Parts) → Bytes frame → (reading frame ≡ Ok p) ↔ MadeOf frame p
   pub no_other : (frame frame' : List ℕ) (p : Parts) → Bytes frame → Bytes frame' → reading frame ≡ Ok p → reading frame' ≡ Ok p → frame ≡ frame'
 
 -- two frames under one key are equal exactly where stations, numbers, headers and bodies are

@@ -11,7 +11,7 @@ pub enum LinkFault {
     // The suite refused, or the engine below it.
     Suite(SuiteFault),
     // A name has 1 to 32 bytes.
-    NameLength,
+    NameOutOfRange,
     // The two stations of a link differ.
     SameStation,
     // A first number is 1 to 2^40 - 1, and there is a number left.
@@ -48,7 +48,7 @@ impl Refusal for LinkFault {
         match self {
             LinkFault::Suite(fault) => fault.number(),
             LinkFault::OutputTooShort => 9,
-            LinkFault::NameLength => 12,
+            LinkFault::NameOutOfRange => 12,
             LinkFault::SameStation => 13,
             LinkFault::NumberOutOfRange => 14,
             LinkFault::PartTooLong => 15,

@@ -9,4 +9,4 @@ pub mod trailer;
 
 pub use fault::LinkFault;
 pub use reading::{Parts, read_trailer};
-pub use trailer::{Fields, nonce, write_trailer};
+pub use trailer::{BODY_LIMIT, Fields, HEADER_LIMIT, nonce, write_trailer};

@@ -5,12 +5,8 @@ ghost use Rattle.frame.specs.Laws.{FramedReadsBack, FramesToldApart, NoByteUncla
 ghost use Rattle.frame.specs.Reading.{fields_in, marked, reading, shown};
 
 use crate::fault::LinkFault;
-use crate::trailer::Fields;
+use crate::trailer::{BODY_LIMIT, Fields, HEADER_LIMIT};
 use aead::Block;
-
-const HEADER_LIMIT: usize = 256;
-
-const BODY_LIMIT: usize = 1200;
 
 // The parts of a frame, and what its trailer says.
 #[derive(Clone, Copy)]
@@ -58,7 +54,8 @@ fn read_fields(trailer: &Block) -> Option<Fields>
     })
 }
 
-// Reads a frame by its trailer, or says why it cannot be read.
+// Reads a frame by its trailer, and hands out its parts. It asks: are there 32 bytes? does the trailer end in the mark? are its lengths
+// within the limits, and those of the frame?
 #[tactic(auto, using(crate::proofs::Taken::read_whole, crate::proofs::Framed::framed_reads_back, crate::proofs::Claimed::no_byte_unclaimed, crate::proofs::Apart::frames_told_apart))]
 pub fn read_trailer(frame: &[u8]) -> Result<Parts<'_>, LinkFault>
     ensures read_or_refused { result_map_both shown (λ e. e) result ≡ reading frame.now }
@@ -75,17 +72,20 @@ pub fn read_trailer(frame: &[u8]) -> Result<Parts<'_>, LinkFault>
     let Some(fields) = read_fields(trailer) else {
         return Err(LinkFault::MarkMissing);
     };
-    let h = usize::from(fields.header);
-    let b = usize::from(fields.body);
-    if h > HEADER_LIMIT || b > BODY_LIMIT || h + b != text.len() {
+    let header_length = usize::from(fields.header);
+    let body_length = usize::from(fields.body);
+    if header_length > HEADER_LIMIT
+        || body_length > BODY_LIMIT
+        || header_length + body_length != text.len()
+    {
         return Err(LinkFault::WrongLengths);
     }
-    let (header, ciphertext) = text.split_at(h);
+    let (header, ciphertext) = text.split_at(header_length);
     Ok(Parts {
         header,
         ciphertext,
         tag,
-        sealed: &rest[h..],
+        sealed: &rest[header_length..],
         trailer,
         fields,
     })

@@ -6,6 +6,12 @@ ghost use Rattle.frame.specs.Values.{FrameValues};
 
 use aead::Block;
 
+// The most bytes of a header.
+pub const HEADER_LIMIT: usize = 256;
+
+// The most bytes of a body.
+pub const BODY_LIMIT: usize = 1200;
+
 // What a trailer says: the frame's number, the station that sealed it, and how many bytes header and body have.
 #[derive(Clone, Copy, PartialEq, Eq, Debug)]
 pub struct Fields {
