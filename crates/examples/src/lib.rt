@@ -6,6 +6,8 @@ mod digest_sessions;
 #[cfg(test)]
 mod engine_calls;
 #[cfg(test)]
+mod frames;
+#[cfg(test)]
 mod quota_piles;
 #[cfg(test)]
 mod sealed_texts;
