@@ -1,7 +1,6 @@
 -- What a frame that reads is made of.
 -- Assumes nothing.
 use Rattle.std.proofs.Common.{◌≡◌, ℕ, ◌+◌, ◌-◌, ◌≤◌, List, [], ◌∷◌, ◌++◌, length, take, drop, get_or, Bool, true, false, cond, not, nat_lt, Ok, Err, Result, sym, refl, subst, ap, take-add, ◌∙◌, ap₂, drop-cons, arith}
-use Rattle.std.proofs.ByRecursion.{All-take, All-drop}
 use Rattle.std.proofs.lemmas.Bool.{and_parts, eqb-true, leb-true, ltb-false, not-false}
 use Rattle.std.proofs.lemmas.List.{drop-drop, drop_all, length-drop, length-take-le, take-append-drop}
 use Rattle.aead.specs.Laws.{Bytes}
@@ -12,7 +11,7 @@ use Rattle.frame.specs.Reading.{Parts, fields_in, fitting, marked, parts_by, rea
 use Rattle.frame.specs.declared.fault.LinkFault.{LinkFault}
 use Rattle.frame.specs.declared.fault.LinkFault.TheVariants.{FrameTooShort, MarkMissing, WrongLengths}
 use Rattle.frame.proofs.Framed.{reads_back}
-use Rattle.frame.proofs.Numbers.{bytes_of_number, number_below}
+use Rattle.frame.proofs.Numbers.{bytes_drop, bytes_of_number, bytes_take, number_below}
 
 -- a question that was passed
 passed : (b : Bool) (e : LinkFault) (x : Result Parts LinkFault) (p : Parts) → cond b (Err e) x ≡ Ok p → (b ≡ false) × (x ≡ Ok p)
@@ -54,7 +53,7 @@ trailer_of t l bs m =
     let a : get_or t 14 0 ≡ 0xa5 = eqb-true _ _ ms.0 in
     let b : get_or t 15 0 ≡ 0x01 = eqb-true _ _ ms.1 in
     let part : (n k : ℕ) → n + k ≤ 16 → bytes_high_first k (number_of (take k (drop n t))) ≡ take k (drop n t) =
-    λ n k h. bytes_of_number k (take k (drop n t)) (length-take-le k (drop n t) (simp length-drop (omega arith))) (All-take _ k (drop n t) (All-drop _ n t bs))
+    λ n k h. bytes_of_number k (take k (drop n t)) (length-take-le k (drop n t) (simp length-drop (omega arith))) (bytes_take k (drop n t) (bytes_drop n t bs))
     in
     let end : drop 14 t ≡ 0xa5 ∷ 0x01 ∷ [] =
     drop-cons t 14 0 (omega arith)
@@ -77,7 +76,7 @@ made_of frame p bytes e =
     let long = r.long in
     let size = r.size in
     let q = parts_by f frame in
-    let all : Bytes t = All-drop _ (length frame - 16) frame bytes in
+    let all : Bytes t = bytes_drop (length frame - 16) frame bytes in
     let sixteen : length t ≡ 16 = simp length-drop (omega arith) in
     let last : trailer f ≡ t = trailer_of t sixteen all r.mark in
     let at : length frame - 32 ≡ f.header + f.body = omega arith in
@@ -100,8 +99,8 @@ made_of frame p bytes e =
       header_within = r.header_within;
       body_within = r.body_within;
       named = (
-        omega (arith, number_below 4 (take 4 (drop 6 t)) (length-take-le 4 (drop 6 t) (simp length-drop (omega arith))) (All-take _ 4 (drop 6 t) (All-drop _ 6 t all))),
-        omega (arith, number_below 6 (take 6 t) (length-take-le 6 t (omega arith)) (All-take _ 6 t all)),
+        omega (arith, number_below 4 (take 4 (drop 6 t)) (length-take-le 4 (drop 6 t) (simp length-drop (omega arith))) (bytes_take 4 (drop 6 t) (bytes_drop 6 t all))),
+        omega (arith, number_below 6 (take 6 t) (length-take-le 6 t (omega arith)) (bytes_take 6 t all)),
       );
     } in
     subst (λ (x : Parts). MadeOf frame x) r.parts made
