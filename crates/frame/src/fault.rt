@@ -24,11 +24,11 @@ pub enum LinkFault {
     FrameTooShort,
     // A trailer ends in a5 01.
     MarkMissing,
-    // The lengths of a trailer are above the limits, or are not those of its frame.
+    // The lengths in a trailer are within the limits, and those of its frame.
     WrongLengths,
-    // A frame of another station than the peer.
+    // A frame comes from the peer's station.
     WrongStation,
-    // A number that is not above the last accepted one, or not below 2^40.
+    // A number is above the last accepted one, and below 2^40.
     WrongNumber,
 }
 
