@@ -1,12 +1,18 @@
--- One more block: the words, and the output that is written block by block.
-use Rattle.std.proofs.Common.{◌≡◌, ℕ, zero, suc, ◌+◌, ◌-◌, ◌*◌, ◌/◌, ◌≤◌, List, ◌++◌, length, drop, sym, refl, ap, ◌∙◌, append_assoc, add-one, arith}
+-- Blocks written over a text one behind the other, and the rest behind them.
+use Rattle.std.proofs.Common.{◌≡◌, ℕ, zero, suc, ◌+◌, ◌-◌, ◌*◌, ◌/◌, ◌≤◌, List, ◌++◌, length, drop, sym, refl, ap, ◌∙◌, append_assoc, arith}
 use borrow.Rule.Slice.PartMut.{put_mid}
 use Rattle.std.proofs.lemmas.List.{length-append, take_at, drop_at, drop-drop, drop_all, append-nil, length-drop}
-use Rattle.engine.specs.Meaning.{permuted}
 use Rattle.suite.specs.Words.{bytes_of}
+use Rattle.std.proofs.lemmas.Bool.Decides.{nat_tests}
 use Rattle.aead.specs.Bytes.{block}
+use Rattle.aead.specs.Cipher.{data_blocks}
 use Rattle.aead.specs.Blocks.{absorbed, rate, after_blocks, sealed_blocks}
 use Rattle.aead.proofs.Bytes.{block_behind}
+
+-- a block of associated data that is absorbed begins at its end or before
+pub blocks_few : (size : ℕ) → 16 * data_blocks size ≤ size + 16
+unfolding data_blocks
+blocks_few size = grind (arith, nat_tests)
 
 pub length_rate : (ws : List ℕ) → length (rate ws) ≡ 16
 unfolding rate bytes_of
@@ -18,10 +24,6 @@ length_covered (suc n) ws text =
     length-append (sealed_blocks n ws text) (rate (absorbed (after_blocks n ws text) (block text n)))
     ∙ omega (arith, length_covered n ws text, length_rate (absorbed (after_blocks n ws text) (block text n)))
 
--- an absorbed block and a run
-pub after_more : (ws bs : List ℕ) (i : ℕ) (v b w u : List ℕ) → v ≡ after_blocks i ws bs → b ≡ block bs i → w ≡ absorbed v b → u ≡ permuted 8 w → u ≡ after_blocks (i + 1) ws bs
-after_more ws bs i v b w u p q r s = rw (add-one) (s ∙ ap (permuted 8) (r ∙ rw (p, q)))
-
 -- a block written behind those before it
 pub written : (i : ℕ) (p new out rest : List ℕ) → length p ≡ 16 * i → out ≡ p ++ drop (16 * i) rest
     → put_mid (16 * i) (16 * i + 16 - 16 * i) out new ≡ (p ++ new) ++ drop (16 * (i + 1)) rest
@@ -30,14 +32,6 @@ written i p new out rest long is =
     let m : 16 * (i + 1) ≡ 16 * i + 16 = omega arith in
     rw (is, k, m, take_at p (drop (16 * i) rest) (16 * i) long, drop_at p (drop (16 * i) rest) (16 * i) long, drop-drop 16 (16 * i) rest)
     (sym (append_assoc p new (drop (16 * i + 16) rest)))
-
--- a block put out
-pub covered_more : (ws text : List ℕ) (i : ℕ) (v b w new out rest : List ℕ)
-    → v ≡ after_blocks i ws text → b ≡ block text i → w ≡ absorbed v b → new ≡ rate w → out ≡ sealed_blocks i ws text ++ drop (16 * i) rest
-    → put_mid (16 * i) (16 * i + 16 - 16 * i) out new ≡ sealed_blocks (i + 1) ws text ++ drop (16 * (i + 1)) rest
-covered_more ws text i v b w new out rest p q r s h =
-    let e : sealed_blocks i ws text ++ new ≡ sealed_blocks (i + 1) ws text = rw (add-one) (ap (λ x. sealed_blocks i ws text ++ x) (s ∙ ap rate (r ∙ rw (p, q)))) in
-    written i (sealed_blocks i ws text) new out rest (length_covered i ws text) h ∙ ap (λ x. x ++ drop (16 * (i + 1)) rest) e
 
 -- the block after the whole ones
 pub rest_block : (ws text now : List ℕ) → length now ≡ length text

@@ -42,7 +42,7 @@ pub halves : (low high : ℕ) (xs ys : List ℕ) → xs ≡ bytes_of low → ys 
 unfolding bytes_of
 halves low high xs ys p q = rw (p, q)
 
-pub length_padded : (bs : List ℕ) → length (padded bs) ≡ length bs + 16
+length_padded : (bs : List ℕ) → length (padded bs) ≡ length bs + 16
 unfolding padded
 length_padded bs = length-append bs (1 ∷ replicate 15 0)
 

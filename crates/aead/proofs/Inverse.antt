@@ -21,7 +21,7 @@ bytes_block t i h =
     All-take (λ b. b < 256) 16 (drop (16 * i) (t ++ 1 ∷ replicate 15 0))
     (All-drop (λ b. b < 256) (16 * i) (t ++ 1 ∷ replicate 15 0) (All-append (λ b. b < 256) t (1 ∷ replicate 15 0) h pad))
 
-pub length_part : (t : List ℕ) (i : ℕ) → length (part t i) ≤ 16
+length_part : (t : List ℕ) (i : ℕ) → length (part t i) ≤ 16
 unfolding part
 length_part t i = simp length-take (omega arith)
 
@@ -31,7 +31,7 @@ length_ciphertext ws t =
     length-take-le (length t) (sealed_blocks (length t / 16 + 1) ws t) (omega (arith, length_covered (length t / 16 + 1) ws t))
 
 -- a part of the ciphertext is a part of the text XORed with the words before it
-pub part_ciphertext : (ws t : List ℕ) (i : ℕ) → length ws ≡ 5 → Bytes t → 16 * i ≤ length t
+part_ciphertext : (ws t : List ℕ) (i : ℕ) → length ws ≡ 5 → Bytes t → 16 * i ≤ length t
     → part (ciphertext ws t) i ≡ xored (part t i) (rate (after_blocks i ws t))
 unfolding ciphertext part
 part_ciphertext ws t i five h le =
@@ -47,7 +47,7 @@ part_ciphertext ws t i five h le =
     ∙ ap (λ x. xored x (rate w)) (part_of_block t i le)
 
 -- a sealed block opens to its text
-pub part_opens : (ws t : List ℕ) (i : ℕ) → length ws ≡ 5 → Bytes t → 16 * i ≤ length t
+part_opens : (ws t : List ℕ) (i : ℕ) → length ws ≡ 5 → Bytes t → 16 * i ≤ length t
     → uncovered (after_blocks i ws t) (part (ciphertext ws t) i) ≡ part t i
 unfolding uncovered
 part_opens ws t i five h le =
@@ -56,7 +56,7 @@ part_opens ws t i five h le =
     ∙ xored_twice (part t i) (rate (after_blocks i ws t)) fits
 
 -- opening a ciphertext goes through the words that sealing went through
-pub after_opened : (i : ℕ) (ws t : List ℕ) → length ws ≡ 5 → Bytes t → 16 * i ≤ length t → after_opening i ws (ciphertext ws t) ≡ after_blocks i ws t
+after_opened : (i : ℕ) (ws t : List ℕ) → length ws ≡ 5 → Bytes t → 16 * i ≤ length t → after_opening i ws (ciphertext ws t) ≡ after_blocks i ws t
 after_opened zero ws t five h le = refl
 after_opened (suc i) ws t five h le =
     let c = ciphertext ws t in
@@ -76,7 +76,7 @@ opened_is (suc i) ws t five h le =
     ∙ ap (λ x. take (16 * i) t ++ x) (opened_part ws t i five h (omega arith))
     ∙ opened_more t i
 
-pub plaintext_ciphertext : (ws t : List ℕ) → length ws ≡ 5 → Bytes t → plaintext ws (ciphertext ws t) ≡ t
+plaintext_ciphertext : (ws t : List ℕ) → length ws ≡ 5 → Bytes t → plaintext ws (ciphertext ws t) ≡ t
 unfolding plaintext
 plaintext_ciphertext ws t five h =
     ap (λ n. opened_blocks (n / 16 + 1) ws (ciphertext ws t)) (length_ciphertext ws t)
@@ -84,7 +84,7 @@ plaintext_ciphertext ws t five h =
     ∙ take_all (16 * (length t / 16 + 1)) t (omega arith)
 
 -- the other way: an opened text seals to its ciphertext
-pub length_uncovered : (ws c : List ℕ) (i : ℕ) → length (uncovered ws (part c i)) ≡ length (part c i)
+length_uncovered : (ws c : List ℕ) (i : ℕ) → length (uncovered ws (part c i)) ≡ length (part c i)
 unfolding uncovered
 length_uncovered ws c i = length_xored (part c i) (rate ws) (omega (arith, length_part c i, length_rate ws))
 
@@ -128,7 +128,7 @@ part_opened (suc n) ws c i le h =
           ∙ ap (λ k. uncovered (after_opening k ws c) (part c k)) e
     ]
 
-pub part_plaintext : (ws c : List ℕ) (i : ℕ) → 16 * i ≤ length c → part (plaintext ws c) i ≡ uncovered (after_opening i ws c) (part c i)
+part_plaintext : (ws c : List ℕ) (i : ℕ) → 16 * i ≤ length c → part (plaintext ws c) i ≡ uncovered (after_opening i ws c) (part c i)
 unfolding plaintext part
 part_plaintext ws c i h = part_opened (length c / 16 + 1) ws c i (omega arith) (omega arith)
 
@@ -152,7 +152,7 @@ pub bytes_plaintext : (ws c : List ℕ) → Bytes c → Bytes (plaintext ws c)
 unfolding plaintext
 bytes_plaintext ws c h = bytes_opened (length c / 16 + 1) ws c h
 
-pub ciphertext_plaintext : (ws c : List ℕ) → length ws ≡ 5 → Bytes c → ciphertext ws (plaintext ws c) ≡ c
+ciphertext_plaintext : (ws c : List ℕ) → length ws ≡ 5 → Bytes c → ciphertext ws (plaintext ws c) ≡ c
 unfolding plaintext uncovered
 ciphertext_plaintext ws c five h =
     let p = plaintext ws c in

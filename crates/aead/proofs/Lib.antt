@@ -1,7 +1,6 @@
 mod Blocks
 mod Bytes
 mod CallLaws
-mod Chains
 pub mod Inverse
 mod Made
 mod Opens
@@ -9,4 +8,5 @@ mod Outcomes
 mod Parts
 mod Published
 mod Same
+mod Seals
 mod Xor

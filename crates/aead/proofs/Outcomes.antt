@@ -9,7 +9,7 @@ use Rattle.suite.specs.Facts.{stamped}
 use Rattle.suite.specs.declared.fault.SuiteFault.{SuiteFault}
 use Rattle.suite.specs.declared.fault.SuiteFault.TheVariants.{Engine, InputTooLong, OutputTooShort, TagMissing, TagMismatch}
 use Rattle.aead.specs.Bytes.{same}
-use Rattle.aead.specs.Calls.{Outcome, accepted, cleared, lifted, long, opening, out_of_runs, sealing, settled, verified}
+use Rattle.aead.specs.Calls.{Outcome, accepted, cleared, long, opening, out_of_runs, sealing, settled, verified}
 use Rattle.aead.specs.Cipher.{cost, sealed, tag_of, unsealed}
 
 -- ---- the end of a call
@@ -23,12 +23,12 @@ module _ (runs n k : ℕ) (out : List ℕ) (m : Meaning) (res : Result (Unit {0}
   engine_left : z ≡ after runs zero_words m
   engine_left = clear ∙ ap wiped spent
 
-  pub ended_ok : (new : List ℕ) → res ≡ Ok tt → o₁ ≡ new → ◌≡◌ {A = Outcome} (r, o₂ ++ drop n out, z) (accepted runs n new out m)
+  ended_ok : (new : List ℕ) → res ≡ Ok tt → o₁ ≡ new → ◌≡◌ {A = Outcome} (r, o₂ ++ drop n out, z) (accepted runs n new out m)
   ended_ok new is e =
       three (answer ∙ ap (settled k (length o₁)) is ∙ ap Ok long')
       (ap (λ (x : List ℕ). x ++ drop n out) (written ∙ ap (λ (x : Result (Unit {0}) SuiteFault). cond (is_ok x) o₁ (replicate (length o₁) 0)) is ∙ e)) engine_left
 
-  pub ended_err : (e fault : SuiteFault) → res ≡ Err e → stamped k e ≡ fault
+  ended_err : (e fault : SuiteFault) → res ≡ Err e → stamped k e ≡ fault
       → ◌≡◌ {A = Outcome} (r, o₂ ++ drop n out, z) (cleared runs n fault out m)
   ended_err e fault is stamp =
       three (answer ∙ ap (settled k (length o₁)) is ∙ ap Err stamp)
@@ -38,6 +38,11 @@ module _ (runs n k : ℕ) (out : List ℕ) (m : Meaning) (res : Result (Unit {0}
       engine_left
 
 -- ---- sealing
+
+-- an engine's refusal as one of the suite, the runs not yet put in
+abbrev pub lifted : {X : Type 0} → Result X EngineFault → Result X SuiteFault
+lifted (Ok x) = Ok x
+lifted (Err e) = Err (Engine e 0)
 
 module _ (key nonce ad text out : List ℕ) (m : Meaning) where
   pub seals_long : long (length ad) (length text) ≡ true → sealing key nonce ad text out m ≡ (Err InputTooLong, out, m)

@@ -77,7 +77,7 @@ part_covered (suc n) ws t i h =
           ∙ ap (λ k. rate (absorbed (after_blocks k ws t) (block t k))) e
     ]
 
-pub length_absorbed : (ws b : List ℕ) → length (absorbed ws b) ≡ length ws
+length_absorbed : (ws b : List ℕ) → length (absorbed ws b) ≡ length ws
 unfolding absorbed
 length_absorbed ws b = length_mixed 1 (word (drop 8 b)) (mixed 0 (word b) ws) ∙ length_mixed 0 (word b) ws
 

@@ -1,7 +1,8 @@
 -- Bytes of words, and bytes XORed: what is XORed twice is as before.
 use Rattle.std.proofs.Common.{◌≡◌, ℕ, zero, suc, ◌+◌, ◌*◌, ◌/◌, ◌%◌, ◌<◌, ◌≤◌, List, [], ◌∷◌, ◌++◌, length, get_or, set, take, drop, sym, refl, ap, ◌∙◌, arith}
-use lib.Bits.{bit_xor, xor_mod, xor_shr, xor_comm, xor_assoc, xor_self, xor_zero_r, xor_lt}
-use lib.Lanes.{number_l, digits_l, zip2}
+use Rattle.std.specs.Int.Bits.{bit_xor, xor_assoc, xor_self, xor_zero_r}
+use Rattle.std.specs.Simd.Lanes.{number_l, digits_l, zip2}
+use Rattle.std.proofs.lemmas.Nat.{xor_mod, xor_shr, xor_comm, xor_lt}
 use Rattle.std.proofs.lemmas.List.{length-take, length-drop, take-append-drop, take_all}
 use Rattle.std.proofs.ByRecursion.{All-append, All-take, All-drop}
 use Rattle.suite.proofs.Words.{length_bytes_of}

@@ -1,6 +1,6 @@
 -- Bytes in blocks of 16, their padding, and bytes XORed.
 -- Assumes nothing.
-use Rattle.std.specs.Prelude.{ℕ, ◌-◌, ◌*◌, Bool, true, false, cond, ◌&&◌, List, [], ◌∷◌, ◌++◌, length, take, drop, replicate, ◌==◌, bit_xor, nat_lt, slice_index}
+use Rattle.std.specs.Prelude.{ℕ, ◌*◌, Bool, true, false, ◌&&◌, List, [], ◌∷◌, ◌++◌, take, drop, replicate, ◌==◌, bit_xor}
 use Rattle.std.specs.Simd.Lanes.{zip2}
 pub use Rattle.suite.specs.Words.{bytes_of, word}
 
@@ -11,12 +11,6 @@ xored xs ys = zip2 bit_xor xs ys
 -- bytes, then one byte 0x01, then zeros enough to fill a block
 unfoldable pub padded : List ℕ → List ℕ
 padded bs = bs ++ 1 ∷ replicate 15 0
-
--- the byte at a place of two joined parts and their padding, seen from the parts
-abbrev pub byte_at : List ℕ → List ℕ → ℕ → ℕ
-byte_at xs ys at =
-    cond (nat_lt at (length xs)) (slice_index xs at)
-    (cond (nat_lt (at - length xs) (length ys)) (slice_index ys (at - length xs)) (cond (at - length xs == length ys) 1 0))
 
 -- block i: a whole one as it is, the rest, perhaps empty, padded by 0x01 and then zeros
 unfoldable pub block : List ℕ → ℕ → List ℕ

@@ -31,12 +31,7 @@ accepted runs n new out m = (Ok n, front n new out, after runs zero_words m)
 abbrev pub cleared : ℕ → ℕ → SuiteFault → List ℕ → Meaning → Outcome
 cleared runs n fault out m = (Err fault, front n (replicate n 0) out, after runs zero_words m)
 
--- an engine's refusal as one of the suite, the runs not yet put in
-abbrev pub lifted : {X : Type 0} → Result X EngineFault → Result X SuiteFault
-lifted (Ok x) = Ok x
-lifted (Err e) = Err (Engine e 0)
-
--- a computed tag against the one that came
+-- a computed tag against the one that came, an engine's refusal as one of the suite, the runs not yet put in
 abbrev pub verified : List ℕ → Result (List ℕ) EngineFault → Result (Unit {0}) SuiteFault
 verified tag (Ok computed) = cond (same computed tag) (Ok tt) (Err TagMismatch)
 verified tag (Err e) = Err (Engine e 0)

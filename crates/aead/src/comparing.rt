@@ -6,6 +6,7 @@ ghost use Rattle.aead.specs.Bytes.{same};
 use crate::words::Block;
 
 // Whether two tags are the same.
+#[tactic(auto, using(crate::proofs::Same::none_differ))]
 // Kept: all sixteen bytes are looked at, whatever they are; `==` may end at the first difference, and tells by its time where that is.
 pub(crate) fn equal(left: &Block, right: &Block) -> bool
     ensures all_bytes_compared { result ≡ same left.now right.now }

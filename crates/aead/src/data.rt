@@ -39,18 +39,19 @@ impl Joined<'_> {
     }
 
     // Block `index`.
+    #[tactic(auto, using(crate::proofs::Bytes::block_front, std::proofs::lemmas::List::take_rest))]
     pub(crate) fn block(&self, index: usize) -> Block
-        requires within { 16 * index ≤ length (joined self.now) }
-        ensures block_is { result ≡ block_of (joined self.now) index }
+        ensures block_is { 16 * index ≤ length (joined self.now) → result
+            ≡ block_of (joined self.now) index }
     {
-        let start = 16 * index;
+        let start = index.saturating_mul(16);
         if start <= self.front.len()
             && let Some(block) = self.front[start..].first_chunk::<16>()
         {
             return *block;
         }
         // A block that is not wholly in the first part.
-        std::array::from_fn(|i| self.byte(start + i))
+        std::array::from_fn(|i| self.byte(start.saturating_add(i)))
     }
 
     // The byte at a place of the joined parts and their padding.
@@ -72,8 +73,7 @@ impl Joined<'_> {
 // Block `index` of a text.
 #[tactic(auto, using(crate::proofs::Bytes::alone))]
 pub(crate) fn block(text: &[u8], index: usize) -> Block
-    requires within { 16 * index ≤ length text.now }
-    ensures block_is { result ≡ block_of text.now index }
+    ensures block_is { 16 * index ≤ length text.now → result ≡ block_of text.now index }
 {
     let parts = Joined {
         front: text,

@@ -18,6 +18,7 @@ use engine::{Engine, EngineFault, completed_runs};
 use suite::SuiteFault;
 
 // XORs at most sixteen bytes with those of w0 and w1.
+#[tactic(auto, using(crate::proofs::Xor::xored_more), unfolding(crate::specs::Bytes::xored))]
 fn uncover(mask: &Block, bytes: &mut [u8])
     requires few { length bytes.old ≤ 16 }
     ensures bytes_xored { bytes.new ≡ xored bytes.old mask.now }
@@ -50,6 +51,7 @@ fn open_blocks<E: Engine>(engine: &mut E, text: &mut [u8]) -> Result<(), EngineF
 }
 
 // Opens a ciphertext where it stands: its whole blocks, and then the rest with no run.
+#[tactic(auto, using(crate::proofs::Opens::plaintext_is, crate::proofs::Opens::after_plaintext_is))]
 fn open_text<E: Engine>(engine: &mut E, text: &mut [u8]) -> Result<(), EngineFault>
     ensures paid_or_refused { result ≡ paid (length text.old / 16) (meaning E.Engine engine.old) tt }
     ensures text_absorbed { OnOk result (E.words engine.new
@@ -67,6 +69,7 @@ fn open_text<E: Engine>(engine: &mut E, text: &mut [u8]) -> Result<(), EngineFau
 }
 
 // All the steps of opening, on a ciphertext where it stands. The answer is the tag that the text has.
+#[tactic(auto, using(engine::proofs::Spending::next, engine::proofs::Spending::next_spent, engine::proofs::Spending::refused, crate::proofs::Opens::tag_of_is), unfolding(crate::specs::Cipher::cost, crate::specs::Cipher::unsealed))]
 fn open_in_place<E: Engine>(
     engine: &mut E,
     context: &Context<'_>,

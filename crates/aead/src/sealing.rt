@@ -37,6 +37,7 @@ fn seal_blocks<E: Engine>(engine: &mut E, text: &mut [u8]) -> Result<(), EngineF
 }
 
 // Seals a text where it stands: its whole blocks, and then the padded rest with no run.
+#[tactic(auto, using(crate::proofs::Blocks::rest_block, crate::proofs::Seals::after_text_is, crate::proofs::Seals::ciphertext_is))]
 fn seal_text<E: Engine>(engine: &mut E, text: &mut [u8]) -> Result<(), EngineFault>
     ensures paid_or_refused { result ≡ paid (length text.old / 16) (meaning E.Engine engine.old) tt }
     ensures text_absorbed { OnOk result (E.words engine.new
@@ -56,6 +57,7 @@ fn seal_text<E: Engine>(engine: &mut E, text: &mut [u8]) -> Result<(), EngineFau
 }
 
 // All the steps of sealing, on a text where it stands. The answer is its tag.
+#[tactic(auto, using(engine::proofs::Spending::next, engine::proofs::Spending::next_spent, engine::proofs::Spending::refused, crate::proofs::Seals::tag_is), unfolding(crate::specs::Cipher::cost))]
 fn seal_in_place<E: Engine>(
     engine: &mut E,
     context: &Context<'_>,
@@ -75,6 +77,8 @@ fn seal_in_place<E: Engine>(
 }
 
 // The same, into an output of just the right length.
+// Kept: `len`, since where the output is cut in two in `seal` itself, a refusal can't be handed on by `?` past the clearing.
+#[tactic(auto, using(engine::proofs::Spending::paid_value), unfolding(crate::specs::Cipher::sealed))]
 fn seal_into<E: Engine>(
     engine: &mut E,
     context: &Context<'_>,

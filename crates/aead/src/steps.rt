@@ -66,7 +66,7 @@ fn initialize<E: Engine>(engine: &mut E, key: &Block, nonce: &Block) -> Result<(
 }
 
 // Absorbs all blocks of associated data, with run 8 after each.
-#[tactic(auto, using(crate::proofs::Chains::blocks_few))]
+#[tactic(auto, using(crate::proofs::Blocks::blocks_few))]
 fn absorb_blocks<E: Engine>(engine: &mut E, parts: &Joined<'_>) -> Result<(), EngineFault>
     ensures paid_or_refused { result
         ≡ paid (data_blocks (length (joined parts.now))) (meaning E.Engine engine.old) tt }
@@ -75,6 +75,7 @@ fn absorb_blocks<E: Engine>(engine: &mut E, parts: &Joined<'_>) -> Result<(), En
     ensures runs_spent { meaning E.Engine engine.new
         ≡ after (data_blocks (length (joined parts.now))) (E.words engine.new) (meaning E.Engine engine.old) }
 {
+    // Kept: the numbers of blocks, which are no places in a slice; an iterator of blocks over two parts would be a type of its own.
     for index in 0..parts.block_count() {
         absorb(engine, &parts.block(index))?;
         engine.run(8)?;

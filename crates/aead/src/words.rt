@@ -6,6 +6,7 @@ ghost use Rattle.aead.specs.Bytes.{bytes_of, word};
 pub type Block = [u8; 16];
 
 // The words of the first and of the last eight bytes.
+#[tactic(auto, using(crate::proofs::Bytes::word_is, crate::proofs::Bytes::word_at))]
 pub(crate) fn words(block: &Block) -> [u64; 2]
     ensures words_are { result ≡ word block.now ∷ word (drop 8 block.now) ∷ [] }
 {
@@ -34,6 +35,7 @@ pub(crate) fn words(block: &Block) -> [u64; 2]
 }
 
 // The bytes of two words.
+#[tactic(auto, using(crate::proofs::Bytes::bytes_are, crate::proofs::Bytes::halves))]
 pub(crate) fn pair(low: u64, high: u64) -> Block
     ensures bytes_are { result ≡ bytes_of low ++ bytes_of high }
 {

@@ -1,6 +1,6 @@
 -- The bytes that a session gives are those of the output blocks.
 -- Assumes nothing.
-use Rattle.std.proofs.Common.{◌≡◌, ℕ, zero, suc, ◌+◌, ◌-◌, ◌*◌, ◌/◌, ◌%◌, ◌<◌, ◌≤◌, List, [], ◌∷◌, ◌++◌, length, get_or, take, sym, refl, ap, ◌∙◌, ap₂, inl, inr, arith}
+use Rattle.std.proofs.Common.{◌≡◌, ℕ, zero, suc, ◌+◌, ◌-◌, ◌*◌, ◌/◌, ◌%◌, ◌<◌, ◌≤◌, List, length, get_or, take, refl, ◌∙◌, ap₂, inl, inr, arith}
 use Rattle.std.proofs.lemmas.List.{get_or_append_left, get_or-append_right, length-append, take_more}
 use Rattle.std.proofs.lemmas.Bool.{cases_lt}
 use Rattle.suite.proofs.Words.{length_bytes_of}
@@ -11,11 +11,7 @@ use Rattle.digest.specs.Functions.{Function, digest}
 
 length_output : (n : ℕ) (ws : List ℕ) → length (output n ws) ≡ 8 * n
 length_output zero ws = refl
-length_output (suc n) ws =
-    let a = length-append (output n ws) (bytes_of (get_or (after_runs (suc n) ws) 0 0)) in
-    let b = length_bytes_of (get_or (after_runs (suc n) ws) 0 0) in
-    let c = length_output n ws in
-    omega arith
+length_output (suc n) ws = grind (arith, length-append, length_bytes_of, length_output n ws)
 
 -- the byte at a place of the blocks
 byte_of_output : (n : ℕ) (ws : List ℕ) (i : ℕ) → i < 8 * n → get_or (output n ws) i 0 ≡ byte_at ws 0 i
@@ -26,8 +22,7 @@ byte_of_output (suc n) ws i lt =
     let new = bytes_of (get_or (after_runs (suc n) ws) 0 0) in
     elim (cases_lt i (8 * n)) [
       | inl below ↦
-          let within : i < length (output n ws) = omega arith in
-          get_or_append_left (output n ws) new 0 i within ∙ byte_of_output n ws i below
+          get_or_append_left (output n ws) new 0 i (omega arith) ∙ byte_of_output n ws i below
       | inr past ↦
           let here : i - 8 * n ≡ i % 8 = omega arith in
           let run : suc n ≡ runs_to 0 (i + 1) = omega arith in
@@ -39,12 +34,9 @@ front_of_output : (n : ℕ) (ws : List ℕ) (size : ℕ) → size ≤ 8 * n → 
 front_of_output n ws zero le = refl
 front_of_output n ws (suc size) le =
     let long = length_output n ws in
-    let z : 0 + size ≡ size = omega arith in
-    let e : size + 1 ≡ suc size = omega arith in
-    ap₂ (λ (front : List ℕ) (b : ℕ). front ++ b ∷ []) (front_of_output n ws size (omega arith))
-    (ap (byte_at ws 0) z ∙ sym (byte_of_output n ws size (omega arith)))
-    ∙ sym (take_more (output n ws) size 0 (omega arith))
-    ∙ ap (λ (k : ℕ). take k (output n ws)) e
+    let a = front_of_output n ws size (omega arith) in
+    let b = byte_of_output n ws size (omega arith) in
+    grind (arith, take_more)
 
 pub digest_bytes : (f : Function) (message : List ℕ) (size : ℕ) → bytes_next size (after_message f.start message) 0 ≡ digest f message size
 unfolding digest blocks

@@ -1,5 +1,3 @@
-pub mod Customized
-pub mod Decisions
 pub mod DigestBytes
 pub mod Giving
 pub mod OutputsJoin

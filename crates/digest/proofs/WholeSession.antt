@@ -1,9 +1,8 @@
 -- Whole sessions: every split of the message and of the output gives the digest, at the price of the formula.
 -- Assumes nothing.
-use Rattle.std.proofs.Common.{◌≡◌, ℕ, ◌+◌, ◌≤◌, Bool, true, false, ◌&&◌, List, [], ◌∷◌, ◌++◌, length, is_ok, Ok, Err, Result, sym, refl, ap, ◌∙◌, subst, ap₂, inl, inr, arith}
-use Rattle.engine.proofs.Laws.{runs_add_up}
+use Rattle.std.proofs.Common.{add-zero, ◌≡◌, ℕ, ◌+◌, ◌≤◌, true, List, [], ◌∷◌, ◌++◌, length, is_ok, Ok, Err, Result, sym, refl, ap, ◌∙◌, inl, inr, arith}
 use Rattle.engine.specs.Meaning.{Meaning}
-use Rattle.engine.specs.Runs.{after, has, wiped, zero_words}
+use Rattle.engine.specs.Runs.{after, has, zero_words}
 use Rattle.std.proofs.lemmas.List.{append_assoc, append-nil, length-append}
 use Rattle.std.proofs.lemmas.Bool.{and_parts, cases_Bool, false≢true}
 use Rattle.suite.specs.declared.fault.SuiteFault.{SuiteFault}
@@ -14,9 +13,6 @@ use Rattle.digest.specs.Functions.{Function, cost, digest}
 use Rattle.digest.proofs.OutputsJoin.{gave, gave_more, gave_nothing, output_accepted, output_accepts}
 use Rattle.digest.proofs.PiecesJoin.{piece_accepted, piece_accepts, state, took_more, took_nothing}
 
-abbrev Absorbed : Type 0
-Absorbed = Result (Unit {0}) SuiteFault × AbsorbingPhase
-
 abbrev Squeezed : Type 0
 Squeezed = Result (Unit {0}) SuiteFault × List ℕ × SqueezingPhase
 
@@ -26,11 +22,7 @@ ok_is (Err e) h = absurd (false≢true h)
 
 -- an engine that has some runs has fewer
 has_fewer : (k n : ℕ) (m : Meaning) → k ≤ n → has n m ≡ true → has k m ≡ true
-has_fewer k n m le here =
-    elim (cases_Bool (has k m)) [
-      | inl had ↦ had
-      | inr gone ↦ absurd (false≢true (sym (runs_add_up.lacking_more k n m le gone) ∙ here))
-    ]
+has_fewer k n m le here = grind arith
 
 cost_more : (f : Function) (a b c d : ℕ) → a ≤ b → c ≤ d → cost f a c ≤ cost f b d
 unfolding blocks
@@ -43,37 +35,30 @@ module _ (f : Function) (m : Meaning) where
       → length (message ++ joined pieces) ≤ 16777216 → has (cost f (length (message ++ joined pieces)) 0) m ≡ true
       → absorb_all pieces s ≡ (true, state f m (message ++ joined pieces))
   all_absorbed [] message s t fits here =
-      ap (λ (x : AbsorbingPhase). (true, x)) (t.state ∙ ap (state f m) (sym (append-nil message)))
+      grind (arith, append-nil)
   all_absorbed (piece ∷ pieces) message s t fits here =
       let e : (message ++ piece) ++ joined pieces ≡ message ++ (piece ++ joined pieces) = append_assoc message piece (joined pieces) in
       let l = length-append (message ++ piece) (joined pieces) in
-      let le : length (message ++ piece) ≤ length (message ++ (piece ++ joined pieces)) = omega (arith, ap length e) in
-      let enough : has (cost f (length (message ++ piece)) 0) m ≡ true =
-      has_fewer _ _ m (cost_more f _ _ 0 0 le (omega arith)) here
-      in
+      let k = ap length e in
+      let enough : has (cost f (length (message ++ piece)) 0) m ≡ true = has_fewer _ _ m (cost_more f _ _ 0 0 (omega arith) (omega arith)) here in
       let step = piece_accepts f m message piece s t (omega arith) enough in
       let t' : Took f m (message ++ piece) (state f m (message ++ piece)) = record { state = refl; runs_had = enough } in
-      ap (λ (x : Absorbed). (is_ok x.0 && (absorb_all pieces x.1).0, (absorb_all pieces x.1).1)) step
-      ∙ all_absorbed pieces (message ++ piece) (state f m (message ++ piece)) t' (subst (λ (x : List ℕ). length x ≤ 16777216) (sym e) fits)
-      (ap (λ (x : List ℕ). has (cost f (length x) 0) m) e ∙ here)
-      ∙ ap (λ (x : List ℕ). (true, state f m x)) e
+      let rest = all_absorbed pieces (message ++ piece) (state f m (message ++ piece)) t' (rw e fits) (rw e here) in
+      grind arith
 
   pub all_took : (pieces : List (List ℕ)) (message : List ℕ) (s : AbsorbingPhase) → Took f m message s → length message ≤ 16777216
       → (absorb_all pieces s).0 ≡ true
       → (length (message ++ joined pieces) ≤ 16777216) × Took f m (message ++ joined pieces) (absorb_all pieces s).1
   all_took [] message s t fits ok =
-      let e : message ≡ message ++ [] = sym (append-nil message) in
-      (subst (λ (x : List ℕ). length x ≤ 16777216) e fits, subst (λ (x : List ℕ). Took f m x s) e t)
+      rw append-nil (fits, t)
   all_took (piece ∷ pieces) message s t fits ok =
       let both = and_parts (is_ok (absorbing piece s).0) (absorb_all pieces (absorbing piece s).1).0 ok in
       let yes = ok_is (absorbing piece s).0 both.0 in
       let e : (message ++ piece) ++ joined pieces ≡ message ++ (piece ++ joined pieces) = append_assoc message piece (joined pieces) in
       let rest = all_took pieces (message ++ piece) (absorbing piece s).1 (took_more f m message piece s t yes)
       (piece_accepted f m message piece s t yes).0 both.1
-      in (
-        subst (λ (x : List ℕ). length x ≤ 16777216) e rest.0,
-        subst (λ (x : List ℕ). Took f m x (absorb_all pieces (absorbing piece s).1).1) e rest.1,
-      )
+      in
+      rw (← e) rest
 
 -- ---- all outputs
 
@@ -83,8 +68,7 @@ module _ (f : Function) (m : Meaning) (message : List ℕ) where
       → ((squeeze_all outs s).0 ≡ true) × ((squeeze_all outs s).2 ≡ gave f m message (size + length (joined outs)))
       × (digest f message size ++ (squeeze_all outs s).1 ≡ digest f message (size + length (joined outs)))
   all_squeezed [] size s t fits here =
-      let e : size ≡ size + 0 = omega arith in
-      (refl, t.state ∙ ap (gave f m message) e, append-nil (digest f message size) ∙ ap (digest f message) e)
+      rw (add-zero, append-nil) (refl, t.state, refl)
   all_squeezed (out ∷ outs) size s t fits here =
       let l = length-append out (joined outs) in
       let e : size + length out + length (joined outs) ≡ size + length (out ++ joined outs) = omega arith in
@@ -94,23 +78,15 @@ module _ (f : Function) (m : Meaning) (message : List ℕ) where
       let step = output_accepts f m message out size s t (omega arith) enough in
       let yes : (squeezing out s).0 ≡ Ok tt = ap (λ (x : Squeezed). x.0) step in
       let more = gave_more f m message out size s t yes in
-      let rest = all_squeezed outs (size + length out) (squeezing out s).2 more.1 (subst (λ (n : ℕ). n ≤ f.limit) (sym e) fits)
-      (ap (λ (n : ℕ). has (cost f (length message) n) m) e ∙ here)
-      in (
-        ap₂ (λ (a b : Bool). a && b) (ap is_ok yes) rest.0,
-        rest.1 ∙ ap (gave f m message) e,
-        sym (append_assoc (digest f message size) (squeezing out s).1 _)
-            ∙ ap (λ (x : List ℕ). x ++ (squeeze_all outs (squeezing out s).2).1) more.0
-            ∙ rest.2
-            ∙ ap (digest f message) e,
-      )
+      let rest = all_squeezed outs (size + length out) (squeezing out s).2 more.1 (rw e fits) (rw e here)
+      in
+      rw (← e) (grind arith, rest.1, grind (arith, append_assoc))
 
   pub all_gave : (outs : List (List ℕ)) (size : ℕ) (s : SqueezingPhase) → Gave f m message size s → size ≤ f.limit
       → (squeeze_all outs s).0 ≡ true
       → (size + length (joined outs) ≤ f.limit) × (has (cost f (length message) (size + length (joined outs))) m ≡ true)
   all_gave [] size s t fits ok =
-      let e : size ≡ size + 0 = omega arith in
-      (omega arith, ap (λ (n : ℕ). has (cost f (length message) n) m) (sym e) ∙ t.runs_had)
+      rw add-zero (fits, t.runs_had)
   all_gave (out ∷ outs) size s t fits ok =
       let l = length-append out (joined outs) in
       let e : size + length out + length (joined outs) ≡ size + length (out ++ joined outs) = omega arith in
@@ -119,32 +95,22 @@ module _ (f : Function) (m : Meaning) (message : List ℕ) where
       let rest = all_gave outs (size + length out) (squeezing out s).2 (gave_more f m message out size s t yes).1
       (output_accepted f m message out size s t yes).0 both.1
       in
-      (subst (λ (n : ℕ). n ≤ f.limit) e rest.0, ap (λ (n : ℕ). has (cost f (length message) n) m) (sym e) ∙ rest.1)
+      rw (← e) rest
 
 -- ---- a stopped session gives nothing
 
 stopped_absorbs : (pieces : List (List ℕ)) (s : AbsorbingPhase) → s.stopped ≡ true → (absorb_all pieces s).1.stopped ≡ true
 stopped_absorbs [] s h = h
-stopped_absorbs (piece ∷ pieces) s h =
-    let e : (absorbing piece s).1 ≡ s = rw h refl in
-    ap (λ (x : AbsorbingPhase). (absorb_all pieces x).1.stopped) e ∙ stopped_absorbs pieces s h
+stopped_absorbs (piece ∷ pieces) s h = grind (arith, stopped_absorbs pieces)
 
 stopped_finishes : (s : AbsorbingPhase) → s.stopped ≡ true → (finishing s).stopped ≡ true
 stopped_finishes s h = rw h refl
 
 stopped_squeezes : (outs : List (List ℕ)) (s : SqueezingPhase) → s.stopped ≡ true → (squeeze_all outs s).0 ≡ true → length (joined outs) ≡ 0
 stopped_squeezes [] s h ok = refl
-stopped_squeezes (out ∷ outs) s h ok =
-    let both = and_parts (is_ok (squeezing out s).0) (squeeze_all outs (squeezing out s).2).0 ok in
-    let e : is_ok (squeezing out s).0 ≡ false = rw h refl in
-    absurd (false≢true (sym e ∙ both.0))
+stopped_squeezes (out ∷ outs) s h ok = absurd (grind arith)
 
 -- ---- from start to end
-
--- what follows the message
-abbrev ends : List (List ℕ) → Bool × AbsorbingPhase → Bool × List ℕ × Meaning
-ends outs x =
-    let output = squeeze_all outs (finishing x.1) in (x.0 && output.0, output.1, wiped output.2.engine)
 
 module _ (f : Function) (pieces outs : List (List ℕ)) (m : Meaning) where
   abbrev message : List ℕ
@@ -165,14 +131,9 @@ module _ (f : Function) (pieces outs : List (List ℕ)) (m : Meaning) where
       let t : Took f m message (state f m message) = record { state = refl; runs_had = taken } in
       let z : 0 + size ≡ size = omega arith in
       let b = all_squeezed f m message outs 0 (finishing (state f m message)) (gave_nothing f m message _ t)
-      (subst (λ (n : ℕ). n ≤ f.limit) (sym z) room) (ap (λ (n : ℕ). has (cost f (length message) n) m) z ∙ here)
+      (rw z room) (rw z here)
       in
-      let squeezed = squeeze_all outs (finishing (state f m message)) in
-      let bytes : squeezed.1 ≡ digest f message size = b.2 ∙ ap (digest f message) z in
-      let left : wiped squeezed.2.engine ≡ after (cost f (length message) size) zero_words m =
-      ap (λ (x : SqueezingPhase). wiped x.engine) b.1 ∙ ap (λ (n : ℕ). after (cost f (length message) n) zero_words m) z
-      in
-      ap (ends outs) a ∙ (λ i. (b.0 i, bytes i, left i))
+      grind arith
 
   session_gave : 1 ≤ size → (whole f pieces outs m).0 ≡ true
       → (length message ≤ 16777216) × (size ≤ f.limit) × (has (cost f (length message) size) m ≡ true)
@@ -187,8 +148,7 @@ module _ (f : Function) (pieces outs : List (List ℕ)) (m : Meaning) where
         | inr gone ↦
             let s : (starting f m).stopped ≡ true = rw gone refl in
             let taken : AbsorbingPhase = (absorb_all pieces (starting f m)).1 in
-            let e = stopped_squeezes outs (finishing taken) (stopped_finishes taken (stopped_absorbs pieces (starting f m) s)) both.1 in
-            absurd (omega arith)
+            absurd (grind (arith, stopped_squeezes outs (finishing taken) (stopped_finishes taken (stopped_absorbs pieces (starting f m) s)) both.1))
       ]
 
 pub whole_digest : WholeDigest

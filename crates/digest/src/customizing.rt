@@ -10,6 +10,7 @@ use engine::{Engine, EngineFault};
 use sponge::{Block, absorb_bytes, absorb_word, initialize};
 
 // Takes a customization in before the message: its length in bits, then its blocks and padded rest.
+#[tactic(auto, unfolding(crate::specs::Functions::customized, sponge::specs::Sponge::after_message))]
 pub(crate) fn customize<E: Engine>(
     engine: &mut E,
     value: u64,

@@ -1,7 +1,8 @@
 // Digest sessions: the two types. A session owns its engine. It cannot be copied, only the calls of this crate make one, and it is let go
 // only by ending it, which gives the engine back.
 //
-// Kept: they are two types, and share no generic one, since a message piece after output must not compile.
+// Kept: two types. One over its phase, `Session<E, P>`, would need a trait of the phases to say that what was given is within the limit,
+// for the sake of two short methods, `end` and `stop`.
 ghost use Rattle.std.specs.Prelude.{◌≤◌, IfSome};
 ghost use Rattle.std.proofs.Props.{props};
 

@@ -1,7 +1,7 @@
 -- Mixing and running keep the number of words.
 -- Assumes nothing.
 use Rattle.std.proofs.Common.{◌≡◌, ℕ, List, length, get_or, length-set}
-use lib.Bits.{bit_xor}
+use Rattle.std.specs.Int.Bits.{bit_xor}
 pub use Rattle.permutation.proofs.WordCount.{length_permuted}
 use Rattle.engine.specs.Meaning.{mixed}
 

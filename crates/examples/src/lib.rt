@@ -8,6 +8,8 @@ mod engine_calls;
 #[cfg(test)]
 mod frames;
 #[cfg(test)]
+mod link_keys;
+#[cfg(test)]
 mod quota_piles;
 #[cfg(test)]
 mod sealed_texts;

@@ -1,6 +1,5 @@
 pub mod Bits
 pub mod Bitwise
-pub mod FiveWords
 pub mod Gathered
 pub mod Rotation
 pub mod Sbox

@@ -1,10 +1,12 @@
 -- Rotation: what `rotate_right` returns is the number rotated right, and where its bits go, at every width.
 -- Assumes nothing.
-use Rattle.std.proofs.Common.{◌≡◌, ℕ, suc, ◌+◌, ◌-◌, ◌*◌, ◌/◌, ◌%◌, ◌^◌, ◌<◌, ◌≤◌, sym, ap, ◌∙◌, subst, ap₂, ⊎_elim, add-zero, mod-eq_of_lt, add_comm, add-one, arith, shr-shr, shr_lt}
-use native.Mathlib.Nat.{mul-mod_left, add-mod_right}
-use lib.Bits.{bit_or, or_shifted_r}
-use lib.Pow.{field, high, low, mod-mod-pow, mod-pow-add, shl-shr}
+use Rattle.std.proofs.Common.{◌≡◌, ℕ, ◌+◌, ◌-◌, ◌*◌, ◌/◌, ◌%◌, ◌^◌, ◌<◌, ◌≤◌, sym, ap, ◌∙◌, subst, ap₂, ⊎_elim, add-zero, mod-eq_of_lt, add_comm, arith, shr-shr, shr_lt}
+use Rattle.std.proofs.Math.Nat.{mul-mod_left, add-mod_right}
+use Rattle.std.specs.Int.Bits.{bit_or, or_shifted_r}
+use Rattle.std.proofs.Math.Pow.{mod-pow-add, shl-shr}
 use Rattle.std.proofs.lemmas.Bool.{cases_lt}
+use Rattle.std.proofs.lemmas.Nat.{shr_split}
+use Rattle.std.proofs.lemmas.Nat.Bits.{bit_at_cat_high, bit_at_cat_low}
 use Rattle.permutation.specs.Bits.{bit, rotated, RotationMovesBits}
 
 -- ---- what the code computes
@@ -42,24 +44,8 @@ module _ (n w k : ℕ) (fit : w < 2 ^ n) (some : 0 < k) (below : k < n) where
 -- ---- where the bits go
 
 -- the bits below k of a remainder by 2 ^ k
-bit_low : (x j i : ℕ) → bit (x % 2 ^ (suc i + j)) j ≡ bit x j
-bit_low x j i =
-    ap (λ (y : ℕ). y % 2) (field x (suc i) j)
-    ∙ ap (λ (k : ℕ). x / 2 ^ j % 2 ^ k % 2) (sym (add-one i))
-    ∙ mod-mod-pow (x / 2 ^ j) i 1
-
-pub bit_mod : (x k j : ℕ) → j < k → bit (x % 2 ^ k) j ≡ bit x j
-bit_mod x k j h =
-    let i : (i : ℕ) × (k ≡ suc i + j) = (k - suc j, omega arith) in
-    ap (λ (n : ℕ). bit (x % 2 ^ n) j) i.1 ∙ bit_low x j i.0
-
--- a high part above m low bits: the bits of the low part, then those of the high part
-module _ (hi lo m : ℕ) (fit : lo < 2 ^ m) where
-  bit_below : (j : ℕ) → j < m → bit (hi * 2 ^ m + lo) j ≡ bit lo j
-  bit_below j h = sym (bit_mod (hi * 2 ^ m + lo) m j h) ∙ ap (λ (x : ℕ). bit x j) (low hi m fit)
-
-  bit_above : (i : ℕ) → bit (hi * 2 ^ m + lo) (m + i) ≡ bit hi i
-  bit_above i = ap (λ (x : ℕ). x % 2) (sym (shr-shr (hi * 2 ^ m + lo) m i) ∙ ap (λ (x : ℕ). x / 2 ^ i) (high hi m fit))
+bit_mod : (x k j : ℕ) → j < k → bit (x % 2 ^ k) j ≡ bit x j
+bit_mod x k j h = sym (bit_at_cat_low (x / 2 ^ k) k (x % 2 ^ k) j h) ∙ ap (λ (y : ℕ). bit y j) (shr_split x k)
 
 module _ (w k m : ℕ) (fit : w < 2 ^ (m + k)) where
   abbrev turned : ℕ
@@ -68,7 +54,7 @@ module _ (w k m : ℕ) (fit : w < 2 ^ (m + k)) where
   turned_below : (j : ℕ) → j < m → bit turned j ≡ bit w ((j + k) % (m + k))
   turned_below j h =
       let lt : j + k < m + k = omega arith in
-      bit_below (w % 2 ^ k) (w / 2 ^ k) m (shr_lt m k fit) j h
+      bit_at_cat_low (w % 2 ^ k) m (w / 2 ^ k) j h
       ∙ ap (λ (x : ℕ). x % 2) (shr-shr w k j)
       ∙ ap (bit w) (add_comm k j ∙ sym (mod-eq_of_lt lt))
 
@@ -76,7 +62,8 @@ module _ (w k m : ℕ) (fit : w < 2 ^ (m + k)) where
   turned_above i h =
       let lt : i < m + k = omega arith in
       let e : m + i + k ≡ i + (m + k) = omega arith in
-      bit_above (w % 2 ^ k) (w / 2 ^ k) m (shr_lt m k fit) i
+      bit_at_cat_high (w % 2 ^ k) m (w / 2 ^ k) (m + i) (shr_lt m k fit) (omega arith)
+      ∙ ap (bit (w % 2 ^ k)) (let z : m + i - m ≡ i = omega arith in z)
       ∙ bit_mod w k i h
       ∙ ap (bit w) (sym (ap (λ (x : ℕ). x % (m + k)) e ∙ add-mod_right i (m + k) ∙ mod-eq_of_lt lt))
 

@@ -1,7 +1,7 @@
 -- Pieces join: the whole blocks and the rest of two joined pieces are those of the rest of the first joined to the second.
 -- Assumes nothing.
-use Rattle.std.proofs.Common.{◌≡◌, ℕ, zero, suc, ◌+◌, ◌*◌, ◌/◌, ◌≤◌, List, ◌++◌, length, take, drop, sym, refl, ap, ◌∙◌, ap₂, arith}
-use lib.Lanes.{number_l}
+use Rattle.std.proofs.Common.{add-zero, add-suc, ◌≡◌, ℕ, zero, suc, ◌+◌, ◌*◌, ◌/◌, ◌≤◌, List, ◌++◌, length, take, drop, sym, refl, ap, ◌∙◌, ap₂, arith}
+use Rattle.std.specs.Simd.Lanes.{number_l}
 use Rattle.engine.specs.Meaning.{mixed, permuted}
 use Rattle.std.proofs.lemmas.List.{drop-append-le, drop-drop, length-append, length-drop, take-append-le}
 use Rattle.suite.specs.Words.{word}
@@ -9,7 +9,7 @@ use Rattle.sponge.specs.Sponge.{absorbed, after_blocks, rest_of, whole_blocks}
 
 pub length_rest : (xs : List ℕ) → length (rest_of xs) + 8 * whole_blocks xs ≡ length xs
 unfolding rest_of whole_blocks
-length_rest xs = let long = length-drop (8 * (length xs / 8)) xs in omega arith
+length_rest xs = grind (arith, length-drop)
 
 -- what lies behind the whole blocks of the first piece
 drop_joined : (xs ys : List ℕ) (k : ℕ) → drop (8 * (whole_blocks xs + k)) (xs ++ ys) ≡ drop (8 * k) (rest_of xs ++ ys)
@@ -36,22 +36,14 @@ blocks_joined : (k : ℕ) (ws xs ys : List ℕ)
     → after_blocks (whole_blocks xs + k) ws (xs ++ ys) ≡ after_blocks k (absorbed ws xs) (rest_of xs ++ ys)
 unfolding absorbed
 blocks_joined zero ws xs ys =
-    let e : whole_blocks xs + zero ≡ whole_blocks xs = omega arith in
-    let le : 8 * whole_blocks xs ≤ length xs = omega (arith, length_rest xs) in
-    ap (λ (n : ℕ). after_blocks n ws (xs ++ ys)) e ∙ blocks_front (whole_blocks xs) ws xs ys le
+    rw add-zero (blocks_front (whole_blocks xs) ws xs ys (omega (arith, length_rest xs)))
 blocks_joined (suc k) ws xs ys =
-    let e : whole_blocks xs + suc k ≡ suc (whole_blocks xs + k) = omega arith in
-    ap (λ (n : ℕ). after_blocks n ws (xs ++ ys)) e
-    ∙ ap₂ (λ (v u : List ℕ). permuted 12 (mixed 0 (word v) u)) (drop_joined xs ys k) (blocks_joined k ws xs ys)
+    rw add-suc (ap₂ (λ (v u : List ℕ). permuted 12 (mixed 0 (word v) u)) (drop_joined xs ys k) (blocks_joined k ws xs ys))
 
 module _ (xs ys : List ℕ) where
   pub whole_joined : whole_blocks (xs ++ ys) ≡ whole_blocks xs + whole_blocks (rest_of xs ++ ys)
   unfolding whole_blocks
-  whole_joined =
-      let a = length_rest xs in
-      let b = length-append xs ys in
-      let c = length-append (rest_of xs) ys in
-      omega arith
+  whole_joined = grind (arith, length_rest, length-append)
 
   pub rest_joined : rest_of (xs ++ ys) ≡ rest_of (rest_of xs ++ ys)
   unfolding rest_of

@@ -1,33 +1,25 @@
 -- A byte placed into a block, inside it and at its end, and a block padded.
 -- Assumes nothing.
-use Rattle.std.proofs.Common.{◌≡◌, ℕ, suc, ◌+◌, ◌-◌, ◌<◌, ◌≤◌, true, false, eqb, List, [], ◌∷◌, ◌++◌, length, take, drop, set, replicate, Some, None, sym, ap, ◌∙◌, arith}
+use Rattle.std.proofs.Common.{◌≡◌, ℕ, suc, ◌+◌, ◌-◌, ◌<◌, ◌≤◌, true, eqb, List, [], ◌∷◌, ◌++◌, length, get_or, take, drop, set, replicate, Some, sym, ap, ◌∙◌, arith}
 use borrow.Rule.Slice.PartMut.{put_mid}
-use lib.Lanes.{number_l}
-use lib.Seq.{take-append-add}
-use Rattle.std.proofs.lemmas.List.{append_assoc, append-nil, drop_all, length-drop, length-set, length-take, length-take-le, places, take_all, take_more_set, take-replicate}
-use Rattle.std.proofs.lemmas.Bool.{eq-eqb, ne_eqb}
+use Rattle.std.specs.Simd.Lanes.{number_l}
+use Rattle.std.proofs.Math.Seq.{take-append-add}
+use Rattle.std.proofs.lemmas.List.{append_assoc, append-nil, drop_all, length-drop, length-set, length-take-le, places, take_all, take_more_set, take-replicate}
+use Rattle.std.proofs.lemmas.Bool.{eq-eqb}
 use Rattle.suite.specs.Words.{word}
+use Rattle.suite.proofs.Words.{sum8, word_is}
 use Rattle.sponge.specs.Steps.{placing}
-use Rattle.sponge.specs.Held.{part_of}
 use Rattle.sponge.specs.Sponge.{padded}
-use Rattle.sponge.specs.declared.block.Block.{Block}
 
 module _ (blk : List ℕ) (n b : ℕ) (len : length blk ≡ 8) where
-  pub place_inside : n < 7 → (None, take (n + 1) (set blk n b)) ≡ placing b (take n blk)
-  place_inside h =
-      let long : length (take n blk) ≡ n = length-take-le n blk (omega arith) in
-      let f : eqb (length (take n blk)) 7 ≡ false = rw long (ne_eqb n 7 (omega arith)) in
-      let e : take (n + 1) (set blk n b) ≡ take n blk ++ b ∷ [] = take_more_set blk n b (omega arith) in
-      simp (f, e)
-
-  pub place_whole : (v : ℕ) → n < 8 → 7 ≤ n → v ≡ word (set blk n b) → (Some v, []) ≡ placing b (take n blk)
+  pub place_whole : (v : ℕ) → n < 8 → 7 ≤ n → v ≡ sum8 (λ k. get_or (set blk n b) k 0) → (Some v, []) ≡ placing b (take n blk)
   place_whole v lt ge is =
       let long : length (take n blk) ≡ n = length-take-le n blk (omega arith) in
       let f : eqb (length (take n blk)) 7 ≡ true = rw long (eq-eqb n 7 (omega arith)) in
       let w : set blk n b ≡ take n blk ++ b ∷ [] =
       sym (take_all (n + 1) (set blk n b) (simp length-set (omega arith))) ∙ take_more_set blk n b (omega arith)
       in
-      let e : v ≡ word (take n blk ++ b ∷ []) = is ∙ ap word w in
+      let e : v ≡ word (take n blk ++ b ∷ []) = is ∙ sym (word_is (set blk n b)) ∙ ap word w in
       simp (f, e)
 
 -- a block whose bytes from a place on are 0x01 and zeros
@@ -58,13 +50,9 @@ word_zeroed blk n zeros len lt same =
     let g : length (take n blk ++ 1 ∷ replicate (8 - (n + 1)) 0) ≤ 8 = grind (arith, places) in
     ap (λ (x : List ℕ). number_l 256 (take 8 x)) f ∙ ap (number_l 256) (take_all 8 _ g ∙ e)
 
-pub word_padded : (blk : List ℕ) (n : ℕ) (marked zeros : List ℕ) → length blk ≡ 8 → n < 8 → marked ≡ set blk n 1
+pub word_padded : (blk : List ℕ) (n v : ℕ) (marked zeros : List ℕ) → length blk ≡ 8 → n < 8 → marked ≡ set blk n 1
     → zeros ≡ replicate (length (take (8 - (n + 1)) (drop (n + 1) marked))) 0
-    → word (put_mid (n + 1) (8 - (n + 1)) marked zeros) ≡ word (padded (take n blk))
-word_padded blk n marked zeros len lt mark is =
-    ap (λ (x : List ℕ). word (put_mid (n + 1) (8 - (n + 1)) x zeros)) mark
+    → v ≡ sum8 (λ k. get_or (put_mid (n + 1) (8 - (n + 1)) marked zeros) k 0) → v ≡ word (padded (take n blk))
+word_padded blk n v marked zeros len lt mark is sum =
+    sum ∙ sym (word_is _) ∙ ap (λ (x : List ℕ). word (put_mid (n + 1) (8 - (n + 1)) x zeros)) mark
     ∙ word_zeroed blk n zeros len lt (is ∙ ap (λ (x : List ℕ). replicate (length (take (8 - (n + 1)) (drop (n + 1) x))) 0) mark)
-
--- a block holds fewer bytes than it has room for
-pub part_short : (b : Block) → length (part_of b) < 8
-part_short b = let le = length-take b.filled b.bytes in omega (arith, b.partial)

@@ -1,24 +1,10 @@
 -- Output joins: runs from place to place, and the bytes that they give.
 -- Assumes nothing.
-use Rattle.std.proofs.Common.{◌≡◌, ℕ, zero, suc, ◌+◌, ◌%◌, List, [], ◌∷◌, ◌++◌, length, get_or, sym, refl, ap, ◌∙◌, ap₂, arith}
+use Rattle.std.proofs.Common.{add-zero, add-suc, ◌≡◌, ℕ, zero, suc, ◌+◌, List, ◌++◌, ap, arith}
 use Rattle.engine.specs.Meaning.{permuted}
-use Rattle.std.proofs.lemmas.List.{append_assoc, append-nil, length_push}
-use Rattle.suite.specs.Words.{bytes_of}
+use Rattle.std.proofs.lemmas.List.{append_assoc, append-nil}
 use Rattle.sponge.specs.Steps.{byte_at, bytes_next, runs_to}
 use Rattle.sponge.specs.Sponge.{after_runs, blocks}
-
--- no run inside a block, one before its first byte
-pub runs_inside : (at : ℕ) → (at % 8 ≡ 0 → ⊥) → runs_to at (at + 1) ≡ 0
-unfolding runs_to blocks
-runs_inside at inside = omega arith
-
-pub runs_first : (at : ℕ) → at % 8 ≡ 0 → runs_to at (at + 1) ≡ 1
-unfolding runs_to blocks
-runs_first at first = omega arith
-
-pub runs_none : (at : ℕ) → runs_to at (at + 0) ≡ 0
-unfolding runs_to blocks
-runs_none at = omega arith
 
 -- runs to a place, and on from there
 pub runs_joined : (a n k : ℕ) → runs_to a (a + n) + runs_to (a + n) (a + n + k) ≡ runs_to a (a + (n + k))
@@ -27,40 +13,21 @@ runs_joined a n k = omega arith
 
 pub runs_after : (j k : ℕ) (ws : List ℕ) → after_runs k (after_runs j ws) ≡ after_runs (j + k) ws
 runs_after j zero ws = let e : j ≡ j + zero = omega arith in ap (λ (n : ℕ). after_runs n ws) e
-runs_after j (suc k) ws =
-    let e : suc (j + k) ≡ j + suc k = omega arith in
-    ap (permuted 12) (runs_after j k ws) ∙ ap (λ (n : ℕ). after_runs n ws) e
+runs_after j (suc k) ws = rw add-suc (ap (permuted 12) (runs_after j k ws))
 
 -- a byte further on, seen from a place between
 pub byte_later : (ws : List ℕ) (a n k : ℕ) → byte_at (after_runs (runs_to a (a + n)) ws) (a + n) (a + n + k) ≡ byte_at ws a (a + (n + k))
 unfolding byte_at
 byte_later ws a n k =
-    let e : a + n + k ≡ a + (n + k) = omega arith in
-    let f : a + n + k + 1 ≡ a + n + (k + 1) = omega arith in
-    let f' : a + (n + (k + 1)) ≡ a + (n + k) + 1 = omega arith in
-    let r : runs_to a (a + n) + runs_to (a + n) (a + n + k + 1) ≡ runs_to a (a + (n + k) + 1) =
-    ap (λ (t : ℕ). runs_to a (a + n) + runs_to (a + n) t) f ∙ runs_joined a n (k + 1) ∙ ap (runs_to a) f'
-    in
-    ap₂ (λ (v : List ℕ) (t : ℕ). get_or (bytes_of (get_or v 0 0)) (t % 8) 0)
-    (runs_after (runs_to a (a + n)) (runs_to (a + n) (a + n + k + 1)) ws ∙ ap (λ (j : ℕ). after_runs j ws) r) e
+    let r = runs_joined a n (k + 1) in
+    let s = runs_after (runs_to a (a + n)) (runs_to (a + n) (a + n + k + 1)) ws in
+    grind arith
 
 pub bytes_joined : (n k : ℕ) (ws : List ℕ) (a : ℕ)
     → bytes_next n ws a ++ bytes_next k (after_runs (runs_to a (a + n)) ws) (a + n) ≡ bytes_next (n + k) ws a
 bytes_joined n zero ws a =
-    let e : n ≡ n + zero = omega arith in append-nil (bytes_next n ws a) ∙ ap (λ (j : ℕ). bytes_next j ws a) e
+    rw add-zero (append-nil (bytes_next n ws a))
 bytes_joined n (suc k) ws a =
-    let e : suc (n + k) ≡ n + suc k = omega arith in
-    sym (append_assoc (bytes_next n ws a) (bytes_next k (after_runs (runs_to a (a + n)) ws) (a + n)) _)
-    ∙ ap₂ (λ (front : List ℕ) (b : ℕ). front ++ b ∷ []) (bytes_joined n k ws a) (byte_later ws a n k)
-    ∙ ap (λ (j : ℕ). bytes_next j ws a) e
-
-pub length_bytes : (n : ℕ) (ws : List ℕ) (a : ℕ) → length (bytes_next n ws a) ≡ n
-length_bytes zero ws a = refl
-length_bytes (suc n) ws a =
-    length_push (bytes_next n ws a) (byte_at ws a (a + n)) ∙ omega (arith, length_bytes n ws a)
-
--- the byte read from w0 after the run, if there was one
-pub byte_is : (bs : List ℕ) (w : ℕ) (v ws : List ℕ) (at : ℕ) → bs ≡ bytes_of w → w ≡ get_or v 0 0 → v ≡ after_runs (runs_to at (at + 1)) ws
-    → get_or bs (at % 8) 0 ≡ byte_at ws at at
-unfolding byte_at
-byte_is bs w v ws at p q r = ap (λ (x : List ℕ). get_or x (at % 8) 0) (p ∙ ap bytes_of (q ∙ ap (λ (x : List ℕ). get_or x 0 0) r))
+    let b = byte_later ws a n k in
+    let j = bytes_joined n k ws a in
+    rw add-suc (grind (arith, append_assoc))

@@ -35,6 +35,7 @@ pub fn absorb_word<E: Engine>(engine: &mut E, word: u64) -> Result<(), EngineFau
 }
 
 // Places a byte into the current block, with run 12 once that is whole.
+#[tactic(auto, using(crate::proofs::Bytewise::one_byte))]
 fn absorb_byte<E: Engine>(engine: &mut E, block: &mut Block, byte: u8) -> Result<(), EngineFault>
     ensures paid_or_refused { result
         ≡ paid (whole_blocks (part_of block.old ++ byte ∷ [])) (meaning E.Engine engine.old) tt }
@@ -53,7 +54,7 @@ fn absorb_byte<E: Engine>(engine: &mut E, block: &mut Block, byte: u8) -> Result
 }
 
 // Places the bytes of a piece into the current block one after another.
-#[tactic(auto, using(crate::proofs::Taking::all_taken))]
+#[tactic(auto, using(crate::proofs::Taking::none_taken, crate::proofs::Taking::more_taken, std::proofs::lemmas::List::take_all))]
 pub fn absorb_bytes<E: Engine>(
     engine: &mut E,
     block: &mut Block,

@@ -24,6 +24,7 @@ impl Block {
     }
 
     // Places a byte behind those that are there. A block that is whole by it answers its word and is empty again.
+    #[tactic(auto, using(crate::proofs::Placing::place_whole))]
     pub(crate) fn place(&mut self, byte: u8) -> Option<u64>
         ensures byte_placed { (result, take self.new.filled self.new.bytes)
             ≡ placing byte (take self.old.filled self.old.bytes) }

@@ -8,6 +8,7 @@ ghost use Rattle.sponge.specs.Steps.{byte_at, runs_to};
 use engine::{Engine, EngineFault};
 
 // Makes run 12 before the first byte of an output block.
+#[tactic(auto, unfolding(crate::specs::Steps::runs_to, crate::specs::Sponge::blocks))]
 fn refill<E: Engine>(engine: &mut E, at: usize) -> Result<(), EngineFault>
     ensures paid_or_refused { result ≡ paid (runs_to at (at + 1)) (meaning E.Engine engine.old) tt }
     ensures words_run { OnOk result (E.words engine.new
@@ -30,6 +31,7 @@ fn output_word<E: Engine>(engine: &E) -> Result<u64, EngineFault>
 }
 
 // The byte at a place of the output, where all before it were given.
+#[tactic(auto, using(suite::proofs::Words::bytes_are), unfolding(crate::specs::Steps::byte_at))]
 pub fn squeeze_byte<E: Engine>(engine: &mut E, at: usize) -> Result<u8, EngineFault>
     ensures paid_or_refused { result
         ≡ paid (runs_to at (at + 1)) (meaning E.Engine engine.old) (byte_at (E.words engine.old) at at) }

@@ -54,6 +54,7 @@ impl Digest {
 }
 
 // Starts a session.
+// Kept: a `match`, since a closure that starts the one that was typed would have to be boxed and handed on from where the line is read.
 pub fn start_session<E: Engine>(engine: E, function: Function<'_>) -> Absorbing<E>
     ensures started_or_stopped { absorbing_of E.Engine result ≡ starting (function_of function.entry) (meaning E.Engine engine) }
 {

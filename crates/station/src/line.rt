@@ -66,15 +66,18 @@ impl From<TryFromIntError> for Reason {
     }
 }
 
+// Its words that are left, and the memory for strings of bytes.
 #[derive(Drop)]
 pub struct Line<'a> {
     words: SplitAsciiWhitespace<'a>,
+    heap: Global,
 }
 
 impl<'a> Line<'a> {
-    pub fn new(text: &'a str) -> Line<'a> {
+    pub fn new(heap: Global, text: &'a str) -> Line<'a> {
         Line {
             words: text.split_ascii_whitespace(),
+            heap,
         }
     }
 
@@ -100,12 +103,12 @@ impl<'a> Line<'a> {
     }
 
     // A string of bytes: an even number of hexadecimal digits, or `-` for the empty one.
-    pub fn bytes(&mut self, heap: Global) -> Result<Vec<u8>, Reason> {
+    pub fn bytes(&mut self) -> Result<Vec<u8>, Reason> {
         let word = self.some_word()?;
         if word == "-" {
-            return Ok(Vec::new(heap));
+            return Ok(Vec::new(self.heap));
         }
-        let mut bytes = vec![in heap; 0; word.len() / 2]?;
+        let mut bytes = vec![in self.heap; 0; word.len() / 2]?;
         decode(word.as_bytes(), bytes.as_mut_slice())?;
         Ok(bytes)
     }

@@ -2,35 +2,34 @@
 use crate::command::{AeadJob, BenchCommand, Command, DigestJob, Quotas, SessionCommand};
 use crate::digests::Digest;
 use crate::line::{Line, Reason, count};
-use std::alloc::Global;
 use std::array::try_from_fn;
 
 impl Command {
     // The command that a first word and the words after it spell.
-    pub fn parse(heap: Global, name: &str, words: &mut Line<'_>) -> Result<Command, Reason> {
+    pub fn parse(name: &str, words: &mut Line<'_>) -> Result<Command, Reason> {
         let command = match name {
-            "start" => parse_start(heap, words)?,
-            "absorb" => Command::Session(SessionCommand::Absorb(words.bytes(heap)?)),
+            "start" => parse_start(words)?,
+            "absorb" => Command::Session(SessionCommand::Absorb(words.bytes()?)),
             "finish" => Command::Session(SessionCommand::Finish),
             "squeeze" => Command::Session(SessionCommand::Squeeze(words.room()?)),
             "end" => Command::Session(SessionCommand::End),
-            _ => Command::Bench(parse_on_bench(heap, name, words)?),
+            _ => Command::Bench(parse_on_bench(name, words)?),
         };
         words.end()?;
         Ok(command)
     }
 }
 
-fn parse_on_bench(heap: Global, name: &str, words: &mut Line<'_>) -> Result<BenchCommand, Reason> {
+fn parse_on_bench(name: &str, words: &mut Line<'_>) -> Result<BenchCommand, Reason> {
     match name {
         "engine" => Ok(BenchCommand::Engine(words.some_word()?.parse()?)),
         "quota" => Ok(BenchCommand::Quota(parse_quotas(words)?)),
         "tell" => Ok(BenchCommand::Tell),
         "permute" => parse_permute(words),
-        "seal-text" => Ok(BenchCommand::SealText(parse_aead(heap, words)?)),
-        "open-text" => Ok(BenchCommand::OpenText(parse_aead(heap, words)?)),
+        "seal-text" => Ok(BenchCommand::SealText(parse_aead(words)?)),
+        "open-text" => Ok(BenchCommand::OpenText(parse_aead(words)?)),
         // A digest command has the name of its function.
-        _ => Ok(BenchCommand::Digest(parse_digest_job(heap, name, words)?)),
+        _ => Ok(BenchCommand::Digest(parse_digest_job(name, words)?)),
     }
 }
 
@@ -52,12 +51,12 @@ fn parse_permute(words: &mut Line<'_>) -> Result<BenchCommand, Reason> {
     Ok(BenchCommand::Permute(rounds, state))
 }
 
-fn parse_aead(heap: Global, words: &mut Line<'_>) -> Result<AeadJob, Reason> {
+fn parse_aead(words: &mut Line<'_>) -> Result<AeadJob, Reason> {
     let key = words.block()?;
     let nonce = words.block()?;
-    let front = words.bytes(heap)?;
-    let back = words.bytes(heap)?;
-    let text = words.bytes(heap)?;
+    let front = words.bytes()?;
+    let back = words.bytes()?;
+    let text = words.bytes()?;
     let room = words.room()?;
     Ok(AeadJob {
         key,
@@ -69,11 +68,11 @@ fn parse_aead(heap: Global, words: &mut Line<'_>) -> Result<AeadJob, Reason> {
     })
 }
 
-fn parse_start(heap: Global, words: &mut Line<'_>) -> Result<Command, Reason> {
+fn parse_start(words: &mut Line<'_>) -> Result<Command, Reason> {
     let digest = match words.some_word()? {
         "hash256" => Digest::Hash256,
         "xof128" => Digest::Xof128,
-        "cxof128" => Digest::Cxof128(words.bytes(heap)?),
+        "cxof128" => Digest::Cxof128(words.bytes()?),
         _ => return Err(Reason::UnknownWord),
     };
     Ok(Command::Start(digest))
@@ -82,14 +81,14 @@ fn parse_start(heap: Global, words: &mut Line<'_>) -> Result<Command, Reason> {
 // The length of a digest of Hash256.
 const HASH256_ROOM: usize = 32;
 
-fn parse_digest_job(heap: Global, name: &str, words: &mut Line<'_>) -> Result<DigestJob, Reason> {
+fn parse_digest_job(name: &str, words: &mut Line<'_>) -> Result<DigestJob, Reason> {
     let (room, digest) = match name {
         "hash256" => (HASH256_ROOM, Digest::Hash256),
         "xof128" => (words.room()?, Digest::Xof128),
-        "cxof128" => (words.room()?, Digest::Cxof128(words.bytes(heap)?)),
+        "cxof128" => (words.room()?, Digest::Cxof128(words.bytes()?)),
         _ => return Err(Reason::UnknownWord),
     };
-    let message = words.bytes(heap)?;
+    let message = words.bytes()?;
     Ok(DigestJob {
         digest,
         message,

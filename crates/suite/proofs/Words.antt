@@ -1,7 +1,7 @@
 -- Words and bytes as the standard library states them.
 -- Assumes nothing.
 use Rattle.std.proofs.Common.{◌≡◌, ℕ, ◌+◌, ◌*◌, ◌/◌, ◌%◌, List, [], ◌∷◌, length, get_or, refl, arith}
-use native.Mathlib.Nat.{div-div-eq-div-mul}
+use Rattle.std.proofs.Math.Nat.{div-div-eq-div-mul}
 use Rattle.suite.specs.Words.{bytes_of, word}
 
 -- what `from_le_bytes` makes of eight bytes

@@ -15,6 +15,7 @@ use sponge::squeeze_byte;
 use suite::SuiteFault;
 
 // Fills an output with the bytes that come next after so many given.
+#[tactic(auto, using(crate::proofs::Giving::none_given, crate::proofs::Giving::more_given, crate::proofs::Giving::runs_are))]
 fn squeeze_bytes<E: Engine>(engine: &mut E, given: usize, out: &mut [u8]) -> Result<(), EngineFault>
     requires within { given + length out.old ≤ 16777216 }
     ensures paid_or_refused { result

@@ -1,8 +1,7 @@
 use Rattle.std.proofs.Common.{◌≡◌, ◌+◌, length, refl, rules}
 use Rattle.engine.specs.Of.{meaning}
-use Rattle.aead.specs.Calls.{lifted}
 use Rattle.aead.specs.Data.{joined}
-use Rattle.aead.proofs.Outcomes.{seals_whole}
+use Rattle.aead.proofs.Outcomes.{lifted, seals_whole}
 use Rattle.aead.proofs.sealing.seal.Goals as goal
 
 pub returns-clause-sealed_or_refused : goal.returns-clause-sealed_or_refused

@@ -1,0 +1,2 @@
+pub mod Deriving
+pub mod Steps
