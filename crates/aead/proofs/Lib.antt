@@ -1,7 +1,7 @@
 mod Blocks
 mod Bytes
 mod CallLaws
-mod Inverse
+pub mod Inverse
 mod Made
 mod Opens
 mod Outcomes

@@ -6,6 +6,8 @@ mod digest_sessions;
 #[cfg(test)]
 mod engine_calls;
 #[cfg(test)]
+mod frames;
+#[cfg(test)]
 mod link_keys;
 #[cfg(test)]
 mod quota_piles;

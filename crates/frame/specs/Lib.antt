@@ -1,0 +1,6 @@
+pub mod Bytes
+pub mod Facts
+pub mod Frame
+pub mod Laws
+pub mod Reading
+pub mod Values
