@@ -25,6 +25,8 @@ pub fn serve(rt: &HostRuntime) -> anyhow::Result<()> {
     outcome
 }
 
+// Kept: `rt` and `name` beside each other in what prints: the one is the handle that every printing call takes, the other is the first word
+// of one line; a struct of both would be taken apart at each `println!`.
 impl Desk {
     // Answers a line, unless it is empty or a comment.
     fn answer(self, rt: &HostRuntime, bytes: &[u8]) -> Answered {
