@@ -5,9 +5,12 @@ ghost use Rattle.aead.specs.Bytes.{bytes_of, word};
 // A block of text, a key, a nonce or a tag.
 pub type Block = [u8; 16];
 
+// The two words of a block.
+pub(crate) type Halves = [u64; 2];
+
 // The words of the first and of the last eight bytes.
 #[tactic(auto, using(crate::proofs::Bytes::word_is, crate::proofs::Bytes::word_at))]
-pub(crate) fn words(block: &Block) -> [u64; 2]
+pub(crate) fn words(block: &Block) -> Halves
     ensures words_are { result ≡ word block.now ∷ word (drop 8 block.now) ∷ [] }
 {
     let (halves, _) = block.as_chunks::<8>();

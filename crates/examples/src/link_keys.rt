@@ -2,18 +2,18 @@
 use digest::Customization;
 use engine::{Allowance, Engine, EngineFault};
 use engines::WordEngine;
-use key::derive_key;
+use key::{Key, Secret, derive_key};
 use layers::Quota;
 use std::test::Fail;
 use suite::SuiteFault;
 
 // The secret 00 01 .. 1f.
-fn secret() -> [u8; 32] {
+fn secret() -> Secret {
     std::array::from_fn(|i| (i & 0xff) as u8)
 }
 
 // The key of the secret under the name `ring-1/2`.
-const KEY: [u8; 16] = [
+const KEY: Key = [
     0x64, 0xce, 0xf0, 0xdb, 0xa3, 0xf2, 0xd6, 0x02, 0x4a, 0x7b, 0x48, 0xfb, 0x05, 0x42, 0xa6, 0x2b,
 ];
 

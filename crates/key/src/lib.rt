@@ -10,13 +10,18 @@ use digest::{Absorbing, Customization};
 use engine::{Engine, EngineFault, completed_runs};
 use suite::SuiteFault;
 
+// What the two ends of a link share.
+pub type Secret = [u8; 32];
+
+pub type Key = [u8; 16];
+
 // The key of a link: 16 bytes of Ascon-CXOF128 over the secret, customized by the link's name.
 #[tactic(auto, using(crate::proofs::Drawn::known_cost, crate::proofs::Drawn::accepted_where, crate::proofs::Drawn::engine_left, crate::proofs::Drawn::key_given))]
 pub fn derive_key<E: Engine>(
     engine: &mut E,
-    secret: &[u8; 32],
+    secret: &Secret,
     name: Customization<'_>,
-) -> Result<[u8; 16], SuiteFault>
+) -> Result<Key, SuiteFault>
     ensures key_or_refused { (result, meaning E.Engine engine.new)
         ≡ deriving_key secret.now name.entry.bytes.now (meaning E.Engine engine.old) }
     ensures known_cost { KnownCost }
@@ -34,9 +39,9 @@ pub fn derive_key<E: Engine>(
 #[tactic(auto, unfolding(crate::specs::Steps::filling))]
 fn fill_key<E: Engine>(
     engine: &mut E,
-    secret: &[u8; 32],
+    secret: &Secret,
     name: Customization<'_>,
-    key: &mut [u8; 16],
+    key: &mut Key,
 ) -> Result<(), SuiteFault>
     ensures key_filled { (result, key.new, meaning E.Engine engine.new)
         ≡ filling secret.now name.entry.bytes.now key.old (meaning E.Engine engine.old) }
