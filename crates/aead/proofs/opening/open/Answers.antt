@@ -14,6 +14,6 @@ returns-clause-opened_or_refused g c =
     opens_whole c.args.context.now.key.now c.args.context.now.nonce.now (joined c.args.context.now.data) c.args.sealed.now
     c.args.out.now (meaning g.E.Engine c.args.engine.now) c.in-Some.ciphertext.now c.completed_runs-runs.result c.in-Some.tag.now
     c.open_in_place.result c.verify-result.result _ c.open_in_place.new.text _ (meaning g.E.Engine c.open_in_place.new.engine) _
-    parts.2 short c.if-out-ciphertext.false parts.0 parts.1 made run.paid_or_refused run.text_written c.completed_runs-runs.ensures.all_runs_at_hand
+    parts.2 short (search rules) parts.0 parts.1 made run.paid_or_refused run.text_written c.completed_runs-runs.ensures.all_runs_at_hand
     run.runs_spent c.verify-result.ensures.tags_compared c.settle.ensures.answer_settled c.settle.ensures.refused_output_zero
     c.settle.ensures.words_wiped

@@ -11,6 +11,6 @@ returns-clause-sealed_or_refused g c =
     seals_whole c.args.context.now.key.now c.args.context.now.nonce.now (joined c.args.context.now.data) c.args.text.now
     c.args.out.now (meaning g.E.Engine c.args.engine.now) _ c.completed_runs-runs.result c.seal_into.result
     c.map_err-result.result _ c.seal_into.new.out _ (meaning g.E.Engine c.seal_into.new.engine) _
-    refl (search rules) c.if-out-size.false size c.seal_into.ensures.paid_or_refused c.seal_into.ensures.sealed_written
+    refl (search rules) (search rules) size c.seal_into.ensures.paid_or_refused c.seal_into.ensures.sealed_written
     c.completed_runs-runs.ensures.all_runs_at_hand c.seal_into.ensures.runs_spent lift
     c.settle.ensures.answer_settled c.settle.ensures.refused_output_zero c.settle.ensures.words_wiped
