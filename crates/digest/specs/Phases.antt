@@ -1,8 +1,8 @@
 -- What each call of a session answers, and what it leaves: a function of the session before and the bytes alone.
 -- Assumes nothing.
-use Rattle.std.specs.Prelude.{ℕ, ◌+◌, Bool, true, false, cond, List, [], ◌++◌, length, replicate, Ok, Err, Result, nat_lt}
+use Rattle.std.specs.Prelude.{ℕ, ◌+◌, Bool, true, false, cond, List, [], ◌++◌, length, replicate, is_ok, Ok, Err, Result, nat_lt}
 use Rattle.engine.specs.Meaning.{Meaning, holding, mixed}
-use Rattle.engine.specs.Runs.{after, has, zero_words}
+use Rattle.engine.specs.Runs.{after, has, wiped, zero_words}
 use Rattle.sponge.specs.Sponge.{absorbed, after_runs, padded, rest_of, whole_blocks}
 use Rattle.sponge.specs.Steps.{bytes_next, runs_to}
 use Rattle.suite.specs.Facts.{out_of_runs}
@@ -79,3 +79,12 @@ squeezing out s =
     (cond (has runs m)
     (Ok tt, bytes_next n m.words s.given, giving s.limit (s.given + n) (after runs (after_runs runs m.words) m))
     (Err (out_of_runs m), replicate n 0, stopped_giving s.limit (after runs zero_words m))))
+
+-- ---- a whole digest
+
+-- the message in one piece, finish, the output in one piece, end; a refused message ends it before any output
+abbrev pub in_one : (message out : List ℕ) → AbsorbingPhase → Result (Unit {0}) SuiteFault × List ℕ × Meaning
+in_one message out s =
+    let taken = absorbing message s in
+    let given = squeezing out (finishing taken.1) in
+    cond (is_ok taken.0) (given.0, given.1, wiped given.2.engine) (taken.0, out, wiped taken.1.engine)

@@ -36,6 +36,8 @@ pub fn derive_key<E: Engine>(
 }
 
 // A session from start to end: the secret in one piece, the key in one piece. The first refusal ends it.
+// Kept: the console and `clients` make these calls too; one call for all would have to give the loan back beside the answer, and what a loan
+// in a pair ends as is not known to the check.
 #[tactic(auto, unfolding(crate::specs::Steps::filling))]
 fn fill_key<E: Engine>(
     engine: &mut E,

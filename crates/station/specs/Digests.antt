@@ -2,8 +2,7 @@
 -- Assumes nothing.
 use Rattle.std.specs.Prelude.{◌≡◌, ℕ, true, false, cond, List, [], length, Ok, Err, Result, Vec, nat_le}
 use Rattle.engine.specs.Meaning.{Meaning}
-use Rattle.engine.specs.Runs.{wiped}
-use Rattle.digest.specs.Phases.{AbsorbingPhase, SqueezingPhase, absorbing, finishing, squeezing, starting}
+use Rattle.digest.specs.Phases.{in_one, starting}
 use Rattle.digest.specs.Functions as functions
 use Rattle.suite.specs.declared.fault.SuiteFault.{SuiteFault}
 use Rattle.suite.specs.declared.fault.SuiteFault.TheVariants.{CustomizationTooLong}
@@ -47,19 +46,9 @@ Admitted d (Err e) = (nat_le (length (custom_of d)) 256 ≡ false) × (e ≡ Cus
 abbrev pub Whole : Type 0
 Whole = Result (Unit {0}) SuiteFault × List ℕ × Meaning
 
-abbrev pub squeezed_once : List ℕ → SqueezingPhase → Whole
-squeezed_once out s = ((squeezing out s).0, (squeezing out s).1, wiped (squeezing out s).2.engine)
-
--- the output, where the message was absorbed
-abbrev pub after_absorbing : List ℕ → Result (Unit {0}) SuiteFault → AbsorbingPhase → Whole
-after_absorbing out (Ok x) s = squeezed_once out (finishing s)
-after_absorbing out (Err e) s = (Err e, out, wiped s.engine)
-
 -- a session of a function with one message piece and one output piece; the first refusal ends it
 abbrev pub digested_once : functions.Function → List ℕ → List ℕ → Meaning → Whole
-digested_once f message out m =
-    let taken : Result (Unit {0}) SuiteFault × AbsorbingPhase = absorbing message (starting f m) in
-    after_absorbing out taken.0 taken.1
+digested_once f message out m = in_one message out (starting f m)
 
 -- a digest command: at most 256 bytes of customization? then the session
 abbrev pub digesting : Typed → (message out : List ℕ) → Meaning → Whole

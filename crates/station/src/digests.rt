@@ -90,6 +90,8 @@ pub fn digest_once<E: Engine>(
 }
 
 // A whole session: start, one message piece, finish, one output piece, end. The first refusal ends it.
+// Kept: `key` and `clients` make these calls too; one call for all would have to give the loan back beside the answer, and what a loan in a
+// pair ends as is not known to the check.
 fn whole_session<E: Engine>(
     engine: &mut E,
     function: Function<Customization<'_>>,
