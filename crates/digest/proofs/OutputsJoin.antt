@@ -1,6 +1,7 @@
 -- A finished session has given nothing, and an accepted output piece is the digest's next part.
 -- Assumes nothing.
 use Rattle.std.proofs.Common.{◌≡◌, ℕ, ◌+◌, ◌≤◌, true, List, ◌++◌, length, Ok, ap, arith}
+use Rattle.engine.proofs.Laws.{runs_add_up}
 use Rattle.engine.specs.Meaning.{Meaning}
 use Rattle.engine.specs.Runs.{after, has}
 use Rattle.std.proofs.lemmas.Bool.Decides.{nat_tests}
@@ -40,13 +41,13 @@ module _ (f : Function) (m : Meaning) (message out : List ℕ) (size : ℕ) (s :
       → squeezing out s ≡ (Ok tt, bytes, gave f m message (size + length out))
   output_accepts fits here =
       let e = more_blocks in
-      grind (arith, nat_tests, runs_after)
+      grind (arith, nat_tests, runs_after, runs_add_up.has_both, runs_add_up.after_both)
 
   pub output_accepted : (squeezing out s).0 ≡ Ok tt
       → (size + length out ≤ f.limit) × (has (cost f (length message) (size + length out)) m ≡ true)
   output_accepted ok =
       let e = more_blocks in
-      (grind (arith, nat_tests), grind (arith, nat_tests))
+      (grind (arith, nat_tests), grind (arith, nat_tests, runs_add_up.has_both))
 
   -- the bytes stand behind those given before
   bytes_follow : digest f message size ++ bytes ≡ digest f message (size + length out)

@@ -1,6 +1,7 @@
 -- A started session has taken the empty message, and an accepted piece joins the message.
 -- Assumes nothing.
 use Rattle.std.proofs.Common.{◌≡◌, ℕ, ◌+◌, ◌≤◌, true, List, [], ◌++◌, length, Ok, arith}
+use Rattle.engine.proofs.Laws.{runs_add_up}
 use Rattle.engine.specs.Meaning.{Meaning}
 use Rattle.engine.specs.Runs.{after, has}
 use Rattle.std.proofs.lemmas.List.{length-append}
@@ -31,13 +32,13 @@ module _ (f : Function) (m : Meaning) (message piece : List ℕ) (s : AbsorbingP
       → absorbing piece s ≡ (Ok tt, state f m (message ++ piece))
   piece_accepts fits here =
       let e = price in
-      grind (arith, nat_tests, length-append, rest_joined, absorbed_joined)
+      grind (arith, nat_tests, length-append, rest_joined, absorbed_joined, runs_add_up.has_both, runs_add_up.after_both)
 
   pub piece_accepted : (absorbing piece s).0 ≡ Ok tt
       → (length (message ++ piece) ≤ 16777216) × (has (cost f (length (message ++ piece)) 0) m ≡ true)
   piece_accepted ok =
       let e = price in
-      (grind (arith, nat_tests, length-append), grind (arith, nat_tests, length-append))
+      (grind (arith, nat_tests, length-append), grind (arith, nat_tests, length-append, runs_add_up.has_both))
 
   pub took_more : (absorbing piece s).0 ≡ Ok tt → Took f m (message ++ piece) (absorbing piece s).1
   took_more ok =

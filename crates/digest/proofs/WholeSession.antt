@@ -1,6 +1,7 @@
 -- Whole sessions: every split of the message and of the output gives the digest, at the price of the formula.
 -- Assumes nothing.
 use Rattle.std.proofs.Common.{add-zero, ◌≡◌, ℕ, ◌+◌, ◌≤◌, true, List, [], ◌∷◌, ◌++◌, length, is_ok, Ok, Err, Result, sym, refl, ap, ◌∙◌, inl, inr, arith}
+use Rattle.engine.proofs.Laws.{runs_add_up}
 use Rattle.engine.specs.Meaning.{Meaning}
 use Rattle.engine.specs.Runs.{after, has, zero_words}
 use Rattle.std.proofs.lemmas.List.{append_assoc, append-nil, length-append}
@@ -22,7 +23,11 @@ ok_is (Err e) h = absurd (false≢true h)
 
 -- an engine that has some runs has fewer
 has_fewer : (k n : ℕ) (m : Meaning) → k ≤ n → has n m ≡ true → has k m ≡ true
-has_fewer k n m le here = grind arith
+has_fewer k n m le here =
+    elim (cases_Bool (has k m)) [
+      | inl had ↦ had
+      | inr gone ↦ absurd (false≢true (sym (runs_add_up.lacking_more k n m le gone) ∙ here))
+    ]
 
 cost_more : (f : Function) (a b c d : ℕ) → a ≤ b → c ≤ d → cost f a c ≤ cost f b d
 unfolding blocks

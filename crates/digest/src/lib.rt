@@ -7,7 +7,6 @@
 
 mod customization;
 mod customizing;
-mod message;
 mod session;
 
 pub use customization::Customization;

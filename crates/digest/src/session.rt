@@ -3,18 +3,21 @@
 ghost use Rattle.std.specs.Prelude.{◌≤◌, IfSome};
 ghost use Rattle.std.proofs.Props.{props};
 
-use crate::message::Message;
+use sponge::Block;
 
 mod ending;
 mod message;
 mod output;
 mod start;
 
-// A session that takes a message. A stopped one keeps nothing of it.
+// A session that takes a message: the block that is not yet whole, and how many bytes were taken. A stopped one keeps no count, and its
+// block is cleared.
 pub struct Absorbing<E> {
     engine: E,
-    message: Option<Message>,
+    block: Block,
+    taken: Option<usize>,
     limit: usize,
+    ghost message_bounded: { IfSome taken (λ n. n ≤ 16777216) } by { Prim.hlevel props },
     ghost output_bounded: { limit ≤ 16777216 },
 }
 

@@ -7,6 +7,7 @@ use Rattle.suite.specs.declared.fault.SuiteFault.TheVariants.{CustomizationTooLo
 use Rattle.digest.specs.Phases.{AbsorbingPhase, starting}
 use Rattle.digest.specs.Sessions.{taking_or_stopped}
 use Rattle.digest.specs.declared.session.Absorbing as session
+use Rattle.sponge.specs.Held.{part_of}
 use Rattle.station.specs.Built.{Pile}
 use Rattle.station.specs.Digests.{Typed, custom_of, typed}
 use Rattle.station.specs.Piles.{pile_meaning}
@@ -17,7 +18,7 @@ use Rattle.station.specs.declared.desk.Desk.TheVariants.{Idle, Absorbing, Squeez
 
 -- a session that takes a message on the bench's engine
 abbrev pub pile_absorbing : session.Absorbing Pile → AbsorbingPhase
-pile_absorbing s = taking_or_stopped s.limit (pile_meaning s.engine) s.message
+pile_absorbing s = taking_or_stopped s.limit (pile_meaning s.engine) (part_of s.block) s.taken
 
 -- opened: a session started on the bench's engine, or the bench as it was where the customization has more than 256 bytes
 abbrev pub Opened : Typed → Bench → Result (Unit {0}) SuiteFault → Desk → Type 0

@@ -9,6 +9,7 @@ ghost use Rattle.digest.specs.Sessions.{absorbing_of, squeezing_of};
 
 use crate::session::{Absorbing, Squeezing};
 use engine::Engine;
+use sponge::Block;
 
 // An engine with its words cleared.
 fn cleared<E: Engine>(mut engine: E) -> E
@@ -25,7 +26,8 @@ impl<E: Engine> Absorbing<E> {
     {
         let Absorbing {
             engine: absorbing,
-            message: _,
+            block: _,
+            taken: _,
             limit: _,
         } = self;
         cleared(absorbing)
@@ -37,7 +39,8 @@ impl<E: Engine> Absorbing<E> {
             ≡ stopped_taking self.old.limit (wiped (meaning E.Engine self.old.engine)) }
     {
         self.engine.load([0; 5]);
-        self.message = None;
+        self.block = Block::empty();
+        self.taken = None;
     }
 }
 

@@ -10,6 +10,9 @@ use engine::{Engine, completed_runs};
 use sponge::absorb_bytes;
 use suite::SuiteFault;
 
+// The most bytes of a message.
+const LIMIT: usize = 16_777_216;
+
 impl<E: Engine> Absorbing<E> {
     // Absorbs a message piece. Only the joined message counts. A session whose engine refuses a run is stopped.
     #[tactic(auto, using(crate::proofs::PiecesJoin::pieces_join, crate::proofs::Published::known_values))]
@@ -19,15 +22,16 @@ impl<E: Engine> Absorbing<E> {
         ensures pieces_join { PiecesJoin }
         ensures known_values { KnownValues }
     {
-        let Some(mut message) = self.message else {
+        let Some(taken) = self.taken else {
             return Err(SuiteFault::SessionStopped);
         };
-        message.admit(piece.len())?;
+        if piece.len() > LIMIT - taken {
+            return Err(SuiteFault::MessageTooLong);
+        }
         let runs = completed_runs(&self.engine);
-        match absorb_bytes(&mut self.engine, &mut message.block, piece) {
+        match absorb_bytes(&mut self.engine, &mut self.block, piece) {
             Ok(()) => {
-                message.taken += piece.len();
-                self.message = Some(message);
+                self.taken = Some(taken + piece.len());
                 Ok(())
             }
             Err(fault) => {
@@ -43,13 +47,14 @@ impl<E: Engine> Absorbing<E> {
     {
         let Absorbing {
             mut engine,
-            message,
+            block,
+            taken,
             limit,
         } = self;
-        // Kept: a `match`; with `message.map(..)` over a closure that mixes, `returns` stays open.
-        let given = match message {
-            Some(message) => {
-                let _ = engine.mix(0, message.block.padded_word());
+        // Kept: a `match`; with `taken.map(..)` over a closure that mixes, `returns` stays open.
+        let given = match taken {
+            Some(_) => {
+                let _ = engine.mix(0, block.padded_word());
                 Some(0)
             }
             None => None,

@@ -8,10 +8,9 @@ ghost use Rattle.digest.specs.Functions.{cxof128 as CXOF128, hash256 as HASH256,
 
 use crate::customization::Customization;
 use crate::customizing::customize;
-use crate::message::Message;
 use crate::session::Absorbing;
 use engine::{Engine, EngineFault};
-use sponge::initialize;
+use sponge::{Block, initialize};
 
 // The start values, which name the functions and their sizes.
 const HASH256_START: u64 = 0x0000_0801_00cc_0002;
@@ -66,7 +65,8 @@ impl<E: Engine> Absorbing<E> {
     {
         let mut session = Absorbing {
             engine,
-            message: Some(Message::empty()),
+            block: Block::empty(),
+            taken: Some(0),
             limit,
         };
         if started.is_err() {
