@@ -1,5 +1,5 @@
 -- Blocks written over a text one behind the other, and the rest behind them.
-use Rattle.std.proofs.Common.{◌≡◌, ℕ, zero, suc, ◌+◌, ◌-◌, ◌*◌, ◌/◌, ◌≤◌, List, ◌++◌, length, drop, sym, refl, ap, ◌∙◌, append_assoc, arith}
+use Rattle.std.proofs.Common.{◌≡◌, ℕ, zero, suc, ◌+◌, ◌-◌, ◌*◌, ◌/◌, ◌≤◌, List, ◌++◌, length, drop, sym, refl, ◌∙◌, append_assoc, arith}
 use borrow.Rule.Slice.PartMut.{put_mid}
 use Rattle.std.proofs.lemmas.List.{length-append, take_at, drop_at, drop-drop, drop_all, append-nil, length-drop}
 use Rattle.suite.specs.Words.{bytes_of}
@@ -7,7 +7,6 @@ use Rattle.std.proofs.lemmas.Bool.Decides.{nat_tests}
 use Rattle.aead.specs.Bytes.{block}
 use Rattle.aead.specs.Cipher.{data_blocks}
 use Rattle.aead.specs.Blocks.{absorbed, rate, after_blocks, sealed_blocks}
-use Rattle.aead.proofs.Bytes.{block_behind}
 
 -- a block of associated data that is absorbed begins at its end or before
 pub blocks_few : (size : ℕ) → 16 * data_blocks size ≤ size + 16
@@ -32,14 +31,6 @@ written i p new out rest long is =
     let m : 16 * (i + 1) ≡ 16 * i + 16 = omega arith in
     rw (is, k, m, take_at p (drop (16 * i) rest) (16 * i) long, drop_at p (drop (16 * i) rest) (16 * i) long, drop-drop 16 (16 * i) rest)
     (sym (append_assoc p new (drop (16 * i + 16) rest)))
-
--- the block after the whole ones
-pub rest_block : (ws text now : List ℕ) → length now ≡ length text
-    → now ≡ sealed_blocks (length text / 16) ws text ++ drop (16 * (length text / 16)) text → block now (length now / 16) ≡ block text (length text / 16)
-rest_block ws text now size is =
-    let n = length text / 16 in
-    ap (λ (k : ℕ). block now (k / 16)) size ∙ ap (λ x. block x n) is
-    ∙ block_behind (sealed_blocks n ws text) text n (length_covered n ws text) (omega arith)
 
 -- the rest written over, behind the whole blocks
 pub rest_written : (p text now new : List ℕ) → length now ≡ length text → length p ≡ 16 * (length text / 16) → now ≡ p ++ drop (16 * (length text / 16)) text

@@ -1,7 +1,7 @@
 -- Words and bytes as the standard library states them.
-use Rattle.std.proofs.Common.{◌≡◌, ℕ, zero, suc, ◌+◌, ◌-◌, ◌*◌, ◌<◌, ◌≤◌, List, [], ◌∷◌, ◌++◌, length, get_or, take, drop, replicate, sym, refl, ap, ◌∙◌, append_assoc, add-zero, arith, rules}
+use Rattle.std.proofs.Common.{◌≡◌, ℕ, zero, suc, ◌+◌, ◌-◌, ◌*◌, ◌<◌, ◌≤◌, List, [], ◌∷◌, ◌++◌, length, get_or, take, drop, replicate, refl, ap, ◌∙◌, append_assoc, add-zero, arith, rules}
 use borrow.Rule.Slice.PartMut.{put_mid}
-use Rattle.std.proofs.lemmas.List.{get_or-drop, get_or-take, length-take, length-drop, places, get_or_at, get_or-append_right, length-append, drop-append-le, take-append-le, append-nil, drop_at}
+use Rattle.std.proofs.lemmas.List.{get_or-drop, get_or-take, length-take, length-drop, places, get_or_at, get_or-append_right, length-append, drop-append-le, take-append-le, append-nil}
 pub use Rattle.suite.proofs.Words.{bytes_are, sum8, word_is}
 use Rattle.suite.specs.Words.{bytes_of, word}
 use Rattle.aead.specs.Bytes.{padded, block}
@@ -67,12 +67,3 @@ block_front xs ys i h =
 -- a text alone is joined with nothing
 pub alone : (text : List ℕ) (i : ℕ) → block (text ++ []) i ≡ block text i
 alone text i = ap (λ x. block x i) (append-nil text)
-
--- a block of a text whose blocks before it are overwritten
-pub block_behind : (p text : List ℕ) (i : ℕ) → length p ≡ 16 * i → 16 * i ≤ length text → block (p ++ drop (16 * i) text) i ≡ block text i
-unfolding block padded
-block_behind p text i long within =
-    let pad = 1 ∷ replicate 15 0 in
-    ap (λ x. take 16 (drop (16 * i) x)) (append_assoc p (drop (16 * i) text) pad)
-    ∙ ap (take 16) (drop_at p (drop (16 * i) text ++ pad) (16 * i) long)
-    ∙ ap (take 16) (sym (drop-append-le (16 * i) text pad within))

@@ -14,12 +14,12 @@ unfolding after_text
 after_text_is ws text v b e p q r = r ∙ rw (p, q)
 
 -- as many bytes as the rest has, written over it, behind the whole blocks
-pub ciphertext_is : (ws text now new : List ℕ) → length now ≡ length text
-    → now ≡ sealed_blocks (length text / 16) ws text ++ drop (16 * (length text / 16)) text
+pub ciphertext_is : (ws text out now new : List ℕ) → length out ≡ length text → length now ≡ length text
+    → now ≡ sealed_blocks (length text / 16) ws text ++ drop (16 * (length text / 16)) out
     → new ≡ take (length (take (length now - 16 * (length now / 16)) (drop (16 * (length now / 16)) now))) (rate (absorbed (after_blocks (length text / 16) ws text) (block text (length text / 16))))
     → put_mid (16 * (length now / 16)) (length now - 16 * (length now / 16)) now new ≡ ciphertext ws text
 unfolding ciphertext
-ciphertext_is ws text now new size is fresh =
+ciphertext_is ws text out now new same size is fresh =
     let n = length text / 16 in
     let c = sealed_blocks n ws text in
     let last = rate (absorbed (after_blocks n ws text) (block text n)) in
@@ -28,7 +28,8 @@ ciphertext_is ws text now new size is fresh =
     simp (length-take, length-drop) (omega arith) in
     let e : length c + (length text - 16 * n) ≡ length text = omega arith in
     let full : c ++ last ≡ sealed_blocks (n + 1) ws text = rw add-one in
-    rest_written c text now new size long is
+    rest_written c out now new (size ∙ sym same) (long ∙ ap (λ (k : ℕ). 16 * (k / 16)) (sym same))
+    (is ∙ ap (λ (k : ℕ). c ++ drop (16 * (k / 16)) out) (sym same))
     ∙ ap (λ x. c ++ x) (fresh ∙ ap (λ j. take j last) few)
     ∙ sym (take-append-add c last (length text - 16 * n)) ∙ rw (e, full)
 

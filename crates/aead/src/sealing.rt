@@ -16,67 +16,73 @@ use crate::words::Block;
 use engine::{Engine, EngineFault, completed_runs};
 use suite::SuiteFault;
 
-// Seals the whole blocks of a text where it stands, with run 8 after each.
-fn seal_blocks<E: Engine>(engine: &mut E, text: &mut [u8]) -> Result<(), EngineFault>
-    ensures paid_or_refused { result ≡ paid (length text.old / 16) (meaning E.Engine engine.old) tt }
+// Seals the whole blocks of a text, with run 8 after each. Into the output goes ciphertext alone, block by block.
+// Kept: `len`, here and below. A text that is sealed where it stands would need no such question, but would have to be copied into the
+// output first, which then holds all of it while the engine runs.
+fn seal_blocks<E: Engine>(engine: &mut E, text: &[u8], out: &mut [u8]) -> Result<(), EngineFault>
+    requires len { length out.old ≡ length text.now }
+    ensures paid_or_refused { result ≡ paid (length text.now / 16) (meaning E.Engine engine.old) tt }
     ensures blocks_absorbed { OnOk result (E.words engine.new
-        ≡ after_blocks (length text.old / 16) (E.words engine.old) text.old) }
-    ensures blocks_written { OnOk result (text.new
-        ≡ sealed_blocks (length text.old / 16) (E.words engine.old) text.old ++ drop (16 * (length
-        text.old / 16)) text.old) }
+        ≡ after_blocks (length text.now / 16) (E.words engine.old) text.now) }
+    ensures blocks_written { OnOk result (out.new
+        ≡ sealed_blocks (length text.now / 16) (E.words engine.old) text.now ++ drop (16 * (length
+        text.now / 16)) out.old) }
     ensures runs_spent { meaning E.Engine engine.new
-        ≡ after (length text.old / 16) (E.words engine.new) (meaning E.Engine engine.old) }
+        ≡ after (length text.now / 16) (E.words engine.new) (meaning E.Engine engine.old) }
 {
     // Kept: the number of the block, since nothing is known of what a slice ends as after `chunks_exact_mut` or `as_chunks_mut`.
     for i in 0..text.len() / 16 {
         absorb(engine, &block(text, i));
-        text[16 * i..16 * i + 16].copy_from_slice(&squeeze(engine));
+        out[16 * i..16 * i + 16].copy_from_slice(&squeeze(engine));
         engine.run(8)?;
     }
     Ok(())
 }
 
-// Seals a text where it stands: its whole blocks, and then the padded rest with no run.
-#[tactic(auto, using(crate::proofs::Blocks::rest_block, crate::proofs::Seals::after_text_is, crate::proofs::Seals::ciphertext_is))]
-fn seal_text<E: Engine>(engine: &mut E, text: &mut [u8]) -> Result<(), EngineFault>
-    ensures paid_or_refused { result ≡ paid (length text.old / 16) (meaning E.Engine engine.old) tt }
+// Seals a text: its whole blocks, and then the padded rest with no run.
+#[tactic(auto, using(crate::proofs::Seals::after_text_is, crate::proofs::Seals::ciphertext_is))]
+fn seal_text<E: Engine>(engine: &mut E, text: &[u8], out: &mut [u8]) -> Result<(), EngineFault>
+    requires len { length out.old ≡ length text.now }
+    ensures paid_or_refused { result ≡ paid (length text.now / 16) (meaning E.Engine engine.old) tt }
     ensures text_absorbed { OnOk result (E.words engine.new
-        ≡ after_text (E.words engine.old) text.old) }
-    ensures ciphertext_written { OnOk result (text.new
-        ≡ ciphertext (E.words engine.old) text.old) }
+        ≡ after_text (E.words engine.old) text.now) }
+    ensures ciphertext_written { OnOk result (out.new
+        ≡ ciphertext (E.words engine.old) text.now) }
     ensures runs_spent { meaning E.Engine engine.new
-        ≡ after (length text.old / 16) (E.words engine.new) (meaning E.Engine engine.old) }
+        ≡ after (length text.now / 16) (E.words engine.new) (meaning E.Engine engine.old) }
 {
-    seal_blocks(engine, text)?;
+    seal_blocks(engine, text, out)?;
     absorb_rest(engine, text);
     let last = squeeze(engine);
-    let start = 16 * (text.len() / 16);
-    let rest = &mut text[start..];
+    let start = 16 * (out.len() / 16);
+    let rest = &mut out[start..];
     rest.copy_from_slice(&last[..rest.len()]);
     Ok(())
 }
 
-// All the steps of sealing, on a text where it stands. The answer is its tag.
+// All the steps of sealing, with an output for the ciphertext. The answer is the tag.
 #[tactic(auto, using(engine::proofs::Spending::next, engine::proofs::Spending::next_spent, engine::proofs::Spending::refused, crate::proofs::Seals::tag_is), unfolding(crate::specs::Cipher::cost))]
-fn seal_in_place<E: Engine>(
+fn seal_steps<E: Engine>(
     engine: &mut E,
     context: &Context<'_>,
-    text: &mut [u8],
+    text: &[u8],
+    out: &mut [u8],
 ) -> Result<Block, EngineFault>
+    requires len { length out.old ≡ length text.now }
     ensures paid_or_refused { result
-        ≡ paid (cost (length (joined context.now.data)) (length text.old)) (meaning E.Engine engine.old)
-        (tag_of context.now.key.now context.now.nonce.now (joined context.now.data) text.old) }
-    ensures ciphertext_written { OnOk result (text.new
-        ≡ ciphertext (ready context.now.key.now context.now.nonce.now (joined context.now.data)) text.old) }
+        ≡ paid (cost (length (joined context.now.data)) (length text.now)) (meaning E.Engine engine.old)
+        (tag_of context.now.key.now context.now.nonce.now (joined context.now.data) text.now) }
+    ensures ciphertext_written { OnOk result (out.new
+        ≡ ciphertext (ready context.now.key.now context.now.nonce.now (joined context.now.data)) text.now) }
     ensures runs_spent { meaning E.Engine engine.new
-        ≡ after (cost (length (joined context.now.data)) (length text.old)) (E.words engine.new) (meaning E.Engine engine.old) }
+        ≡ after (cost (length (joined context.now.data)) (length text.now)) (E.words engine.new) (meaning E.Engine engine.old) }
 {
     prepare(engine, context)?;
-    seal_text(engine, text)?;
+    seal_text(engine, text, out)?;
     finalize(engine, context.key)
 }
 
-// The same, into an output of just the right length.
+// The same, with the tag behind the ciphertext in an output of just the right length.
 // Kept: `len`, since where the output is cut in two in `seal` itself, a refusal can't be handed on by `?` past the clearing.
 #[tactic(auto, using(engine::proofs::Spending::paid_value), unfolding(crate::specs::Cipher::sealed))]
 fn seal_into<E: Engine>(
@@ -94,8 +100,7 @@ fn seal_into<E: Engine>(
         ≡ after (cost (length (joined context.now.data)) (length text.now)) (E.words engine.new) (meaning E.Engine engine.old) }
 {
     let (ciphertext, tag) = out.split_at_mut(text.len());
-    ciphertext.copy_from_slice(text);
-    tag.copy_from_slice(&seal_in_place(engine, context, ciphertext)?);
+    tag.copy_from_slice(&seal_steps(engine, context, text, ciphertext)?);
     Ok(())
 }
 
