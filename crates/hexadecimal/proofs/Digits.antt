@@ -1,11 +1,13 @@
 -- Hexadecimal digits and their values.
 -- Assumes nothing.
-use Rattle.std.proofs.Common.{◌≡◌, ℕ, zero, suc, ◌+◌, ◌*◌, ◌/◌, ◌<◌, true, List, [], length, get_or, take, drop, refl, ap, ◌∙◌, arith}
+use Rattle.std.proofs.Common.{◌≡◌, ℕ, zero, suc, ◌+◌, ◌*◌, ◌/◌, ◌<◌, Bool, true, ◌&&◌, fold, List, [], ◌∷◌, length, get_or, take, drop, sym, refl, ap, ◌∙◌, arith}
+use Rattle.std.proofs.Math.Bool.{and-true, and_assoc}
 use Rattle.std.proofs.lemmas.Bool.{and_parts}
 use Rattle.std.proofs.lemmas.Bool.Decides.{nat_tests}
 use Rattle.std.proofs.lemmas.List.{drop-drop, get_or-take, get_or-drop}
 use Rattle.std.proofs.lemmas.List.Sums.{AllPass-from_list_all}
 use Rattle.std.specs.Char.{digit_char, digit_value, is_ascii_hexdigit}
+use Rattle.std.specs.List.{list_all}
 use Rattle.std.specs.Simd.{first_chunks}
 use Rattle.hexadecimal.specs.Hexadecimal.{is_hex}
 
@@ -28,3 +30,11 @@ digit_of_pair cs i j h in' low =
     ap (λ (p : List ℕ). get_or p j 0) (pair_at (length cs / 2) i cs in') ∙ get_or-take 2 (drop (i * 2) cs) j 0 low ∙ get_or-drop (i * 2) cs j 0
     in
     ap is_ascii_hexdigit e ∙ AllPass-from_list_all is_ascii_hexdigit cs (and_parts _ _ h).1 (i * 2 + j) 0 (omega arith)
+
+gathered : (cs : List ℕ) (b : Bool) → fold (λ ok c. ok && is_ascii_hexdigit c) b cs ≡ (b && list_all is_ascii_hexdigit cs)
+gathered [] b = sym (and-true b)
+gathered (c ∷ cs) b = gathered cs (b && is_ascii_hexdigit c) ∙ and_assoc b (is_ascii_hexdigit c) (list_all is_ascii_hexdigit cs)
+
+-- gathered over the whole text, or asked to the first that is none
+pub all_folded : (cs : List ℕ) → fold (λ ok c. ok && is_ascii_hexdigit c) true cs ≡ list_all is_ascii_hexdigit cs
+all_folded cs = gathered cs true
