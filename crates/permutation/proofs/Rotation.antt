@@ -44,7 +44,7 @@ module _ (n w k : ℕ) (fit : w < 2 ^ n) (some : 0 < k) (below : k < n) where
 -- ---- where the bits go
 
 -- the bits below k of a remainder by 2 ^ k
-bit_mod : (x k j : ℕ) → j < k → bit (x % 2 ^ k) j ≡ bit x j
+pub bit_mod : (x k j : ℕ) → j < k → bit (x % 2 ^ k) j ≡ bit x j
 bit_mod x k j h = sym (bit_at_cat_low (x / 2 ^ k) k (x % 2 ^ k) j h) ∙ ap (λ (y : ℕ). bit y j) (shr_split x k)
 
 module _ (w k m : ℕ) (fit : w < 2 ^ (m + k)) where
