@@ -5,7 +5,6 @@ use Rattle.engine.proofs.Laws.{runs_add_up}
 use Rattle.engine.specs.Meaning.{Meaning}
 use Rattle.engine.specs.Runs.{after, has}
 use Rattle.std.proofs.lemmas.Bool.Decides.{nat_tests}
-use Rattle.std.proofs.lemmas.Bool.Decides.{nat_tests}
 use Rattle.digest.specs.Laws.{Gave, OutputsJoin, Took}
 use Rattle.sponge.specs.Steps.{bytes_next, runs_to}
 use Rattle.digest.specs.Phases.{AbsorbingPhase, SqueezingPhase, finishing, giving, squeezing}
