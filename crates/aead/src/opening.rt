@@ -68,24 +68,28 @@ fn open_text<E: Engine>(engine: &mut E, text: &mut [u8]) -> Result<(), EngineFau
     Ok(())
 }
 
-// All the steps of opening, on a ciphertext where it stands. The answer is the tag that the text has.
+// All the steps of opening, with an output of just the right length. The answer is the tag that the text has.
+// Kept: `len`, since a ciphertext that is copied before the engine made its first runs is copied for nothing where it lacks them.
 #[tactic(auto, using(engine::proofs::Spending::next, engine::proofs::Spending::next_spent, engine::proofs::Spending::refused, crate::proofs::Opens::tag_of_is), unfolding(crate::specs::Cipher::cost, crate::specs::Cipher::unsealed))]
-fn open_in_place<E: Engine>(
+fn open_steps<E: Engine>(
     engine: &mut E,
     context: &Context<'_>,
-    text: &mut [u8],
+    sealed: &[u8],
+    out: &mut [u8],
 ) -> Result<Block, EngineFault>
+    requires len { length out.old ≡ length sealed.now }
     ensures paid_or_refused { result
-        ≡ paid (cost (length (joined context.now.data)) (length text.old)) (meaning E.Engine engine.old)
+        ≡ paid (cost (length (joined context.now.data)) (length sealed.now)) (meaning E.Engine engine.old)
         (tag_of context.now.key.now context.now.nonce.now (joined context.now.data) (unsealed
-        context.now.key.now context.now.nonce.now (joined context.now.data) text.old)) }
-    ensures text_written { OnOk result (text.new
-        ≡ unsealed context.now.key.now context.now.nonce.now (joined context.now.data) text.old) }
+        context.now.key.now context.now.nonce.now (joined context.now.data) sealed.now)) }
+    ensures text_written { OnOk result (out.new
+        ≡ unsealed context.now.key.now context.now.nonce.now (joined context.now.data) sealed.now) }
     ensures runs_spent { meaning E.Engine engine.new
-        ≡ after (cost (length (joined context.now.data)) (length text.old)) (E.words engine.new) (meaning E.Engine engine.old) }
+        ≡ after (cost (length (joined context.now.data)) (length sealed.now)) (E.words engine.new) (meaning E.Engine engine.old) }
 {
     prepare(engine, context)?;
-    open_text(engine, text)?;
+    out.copy_from_slice(sealed);
+    open_text(engine, out)?;
     finalize(engine, context.key)
 }
 
@@ -125,7 +129,6 @@ pub fn open<E: Engine>(
     }
     let runs = completed_runs(engine);
     let text = &mut out[..ciphertext.len()];
-    text.copy_from_slice(ciphertext);
-    let result = verify(open_in_place(engine, context, text), tag);
+    let result = verify(open_steps(engine, context, ciphertext, text), tag);
     settle(engine, runs, text, result)
 }
